@@ -420,7 +420,7 @@ static enum plain_reason submit(struct plain_book *book,
 }
 
 /* Finds the allocation a step names, whose generator or customer, as the role
- * says, A has to be. A party of an allocation has that role in a sound book. */
+ * says, A has to be. A party of one has that role, the book being sound. */
 static enum plain_reason find_allocation(struct plain_book *book,
                                          const struct step *step,
                                          enum plain_role role,
@@ -552,58 +552,71 @@ static enum plain_reason generator_amends(struct plain_book *book,
     return PLAIN_DONE;
 }
 
-static size_t count_above(const uint64_t *remainders, size_t count,
-                          uint64_t line)
+/* A remainder with its place behind it: no two ranks are equal, and of equal
+ * remainders the earlier ranks higher. */
+static uint64_t rank_of(uint64_t remainder, size_t place)
 {
-    size_t found = 0;
-
-    for (size_t i = 0; i < count; i++)
-        found += remainders[i] > line;
-    return found;
+    return remainder * PLAIN_ALLOCATIONS + (PLAIN_ALLOCATIONS - 1 - place);
 }
 
-/* The lowest line that no more than 'spare' remainders lie above, by halving:
- * steadier than a sort, and 25 short passes at the worst in this desk. */
-static uint64_t spare_line(const uint64_t *remainders, size_t count,
-                           uint64_t total, uint64_t spare)
+/* Moves the higher of some ranks in front of the lower ones, and answers the
+ * last place of the front part; neither part is empty. */
+static size_t part_ranks(uint64_t *ranks, size_t first, size_t last)
 {
-    uint64_t low = 0;
-    uint64_t high = total - 1;
+    uint64_t pivot = ranks[first + (last - first) / 2];
 
-    while (low < high) {
-        uint64_t middle = low + (high - low) / 2;
+    for (;; first++, last--) {
+        uint64_t higher;
 
-        if (count_above(remainders, count, middle) <= spare)
-            high = middle;
+        while (ranks[first] > pivot)
+            first++;
+        while (ranks[last] < pivot)
+            last--;
+        if (first >= last)
+            return last;
+        higher = ranks[last];
+        ranks[last] = ranks[first];
+        ranks[first] = higher;
+    }
+}
+
+/* The n-th highest of some ranks, n from 1. Reorders them, but only as far as
+ * it takes: cheaper than a sort. */
+static uint64_t nth_highest(uint64_t *ranks, size_t count, size_t n)
+{
+    size_t first = 0;
+    size_t last = count - 1;
+
+    while (first < last) {
+        size_t split = part_ranks(ranks, first, last);
+
+        if (n - 1 <= split)
+            last = split;
         else
-            low = middle + 1;
+            first = split + 1;
     }
-    return low;
+    return ranks[n - 1];
 }
 
-/* One thousandth to each remainder above the line, and what is left then to
- * those on it, the earlier first. */
-static void give_spare(plain_quantity *shares, const uint64_t *remainders,
-                       size_t count, uint64_t line, uint64_t spare)
+/* One spare thousandth each to the highest ranks. */
+static void give_spare(plain_quantity *shares, const uint64_t *ranks,
+                       size_t count, size_t spare)
 {
-    uint64_t on_line = spare - count_above(remainders, count, line);
+    uint64_t reordered[PLAIN_ALLOCATIONS];
+    uint64_t lowest;
 
-    for (size_t i = 0; i < count; i++) {
-        if (remainders[i] > line) {
-            shares[i]++;
-        } else if (remainders[i] == line && on_line > 0) {
-            shares[i]++;
-            on_line--;
-        }
-    }
+    memcpy(reordered, ranks, count * sizeof *ranks);
+    lowest = nth_highest(reordered, count, spare);
+    for (size_t i = 0; i < count; i++)
+        shares[i] += ranks[i] >= lowest;
 }
 
 void plain_cut(plain_quantity *quantities, size_t count,
                plain_quantity tradeable)
 {
-    uint64_t remainders[PLAIN_ALLOCATIONS];
+    uint64_t ranks[PLAIN_ALLOCATIONS];
     uint64_t total = 0;
-    uint64_t spare = tradeable;
+    plain_quantity spare = tradeable; /* in the end fewer than 'count' */
 
     assert(count <= PLAIN_ALLOCATIONS);
     for (size_t i = 0; i < count; i++)
@@ -614,12 +627,11 @@ void plain_cut(plain_quantity *quantities, size_t count,
         uint64_t product = (uint64_t)quantities[i] * tradeable;
 
         quantities[i] = (plain_quantity)(product / total);
-        remainders[i] = product % total;
+        ranks[i] = rank_of(product % total, i);
         spare -= quantities[i];
     }
     if (spare > 0)
-        give_spare(quantities, remainders, count,
-                   spare_line(remainders, count, total, spare), spare);
+        give_spare(quantities, ranks, count, spare);
 }
 
 static enum plain_reason operator_amends(struct plain_book *book,
