@@ -1,0 +1,11 @@
+pub mod Book
+pub mod Words
+pub mod Sound
+pub mod Kinds
+pub mod Reasons
+pub mod Cut
+pub mod Steps
+pub mod Settlement
+pub mod Run
+pub mod Frame
+pub mod Origin
