@@ -42,7 +42,7 @@ module _ (g : ℕ) where
   nothing-in = rw and-false
 
   -- a weight is what the allocation at that place has
-  weight-at : (l : List Allocation) (i : ℕ) → at (map (acceptedIn g) l) i ≡ acceptedIn g (getD l i noAllocation)
+  pub weight-at : (l : List Allocation) (i : ℕ) → at (map (acceptedIn g) l) i ≡ acceptedIn g (getD l i noAllocation)
   weight-at l i = ap (getD (map (acceptedIn g) l) i) (sym nothing-in) ∙ List·getD-map (acceptedIn g) l i noAllocation
 
   -- OPERATOR AMENDS, where the credits are below the accepted total

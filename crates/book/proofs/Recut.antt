@@ -44,7 +44,7 @@ in-table l i test e h = within (decLe (length l) i)
     within (no o) = omega arith
 
 -- inside a list the default is not read
-any-default : (l : List ℕ) (i d e : ℕ) → i < length l → getD l i d ≡ getD l i e
+pub any-default : (l : List ℕ) (i d e : ℕ) → i < length l → getD l i d ≡ getD l i e
 any-default [] i d e h = absurd (not-suc-le-zero h)
 any-default (a ∷ l) zero d e h = refl
 any-default (a ∷ l) (suc i) d e h = any-default l i d e (le-of-suc-le-suc h)

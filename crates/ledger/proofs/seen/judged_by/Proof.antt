@@ -1,0 +1,16 @@
+-- `seen::judged_by` meets its contract: its tests are the definition's, in order. Assumes nothing.
+use borrow.Author.Tests.{eq-eqb, ne-eqb}
+use Rattle.ledger.proofs.seen.judged_by.Statement.{statement}
+use Rattle.ledger.proofs.seen.judged_by.Tie as tie
+
+returns : tie.Need-returns
+returns c = simp (eq-eqb _ _ (c .if1 .taken))
+
+returns-2 : tie.Need-returns-2
+returns-2 c = simp (ne-eqb _ _ (c .before .before .if1 .left), eq-eqb _ _ (c .if2 .taken))
+
+returns-3 : tie.Need-returns-3
+returns-3 c = simp (ne-eqb _ _ (c .before .before .if1 .left), ne-eqb _ _ (c .if2 .left))
+
+pub judged-by-spec : {M : Type 1} → statement M
+judged-by-spec = tie.close (tie.spec returns returns-2 returns-3)

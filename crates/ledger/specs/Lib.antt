@@ -1,0 +1,6 @@
+pub mod Gate
+pub mod Judge
+pub mod After
+pub mod Ready
+pub mod Check
+pub mod Leaves

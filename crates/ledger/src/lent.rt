@@ -1,0 +1,186 @@
+// The ledger and the accounts, lent as runs of records: thin functions that read and rewrite them.
+ghost use mathlib.Core.Path.{_≡_};
+ghost use Prim.Native.Nat.{ℕ, _+_, _-_, _≤_, _<_};
+ghost use mathlib.Core.List.{_++_};
+ghost use lib.ListN.{length, getD, set, take, drop, replicate};
+ghost use Rattle.book.specs.Book.{noAccount, noAllocation};
+ghost use Rattle.ledger.specs.Judge.{seenIn};
+ghost use Rattle.ledger.specs.After.{requirementIn, marginSetIn, accountAfter};
+use crate::after::with_margin;
+use crate::after::with_requirement;
+use crate::after::with_roles;
+use crate::judge::Verdict;
+use crate::seen::Seen;
+use crate::seen::judged_by;
+use crate::seen::pack;
+use crate::seen::place;
+use crate::seen::slot_of;
+use book::Account;
+use book::Allocation;
+use book::Month;
+use book::Status;
+use record::Fields;
+use units::Cents;
+use units::Net;
+use units::Thousandths;
+
+// The record at a place.
+pub fn get(ledger: &[Allocation], i: usize) -> Allocation
+    requires { ⌜ i < length (now ledger) ⌝ }
+    ensures { λ r. ⌜ r ≡ getD (now (ledger .entry)) i noAllocation ⌝ }
+{
+    ledger[i]
+}
+
+// A record written at a place.
+pub fn put(ledger: &mut [Allocation], i: usize, l: Allocation)
+    requires { ⌜ i < length (now ledger) ⌝ }
+    ensures { λ _. ⌜ now (ledger .exit) ≡ set (now (ledger .entry)) i l ⌝ }
+{
+    ledger[i] = l;
+}
+
+// The account at a place.
+pub fn account_at(accounts: &[Account], i: usize) -> Account
+    requires { ⌜ i < length (now accounts) ⌝ }
+    ensures { λ r. ⌜ r ≡ getD (now (accounts .entry)) i noAccount ⌝ }
+{
+    accounts[i]
+}
+
+// An account written at a place.
+pub fn put_account(accounts: &mut [Account], i: usize, a: Account)
+    requires { ⌜ i < length (now accounts) ⌝ }
+    ensures { λ _. ⌜ now (accounts .exit) ≡ set (now (accounts .entry)) i a ⌝ }
+{
+    accounts[i] = a;
+}
+
+// REQUIREMENT writes that single account.
+pub fn set_requirement(a: &mut Account, f: Fields, v: Verdict)
+    ensures { λ _. ⌜ now (a .exit) ≡ requirementIn f v (now (a .entry)) ⌝ }
+{
+    *a = with_requirement(*a, f, v);
+}
+
+// MARGIN writes that single account.
+pub fn set_margin(a: &mut Account, f: Fields, v: Verdict)
+    ensures { λ _. ⌜ now (a .exit) ≡ marginSetIn f v (now (a .entry)) ⌝ }
+{
+    *a = with_margin(*a, f, v);
+}
+
+// The account at a place, as a step leaves it.
+pub fn write_account(accounts: &mut [Account], i: usize, f: Fields, v: Verdict)
+    requires { ⌜ i < length (now accounts) ⌝ }
+    ensures { λ _. ⌜ now (accounts .exit) ≡ set (now (accounts .entry)) i (accountAfter f v (getD (now (accounts .entry)) i noAccount)) ⌝ }
+{
+    let mut a = with_roles(account_at(&*accounts, i), f, v);
+    set_requirement(&mut a, f, v);
+    set_margin(&mut a, f, v);
+    put_account(&mut *accounts, i, a);
+}
+
+// What a step sees.
+pub fn see(m: Month, accounts: &[Account], ledger: &[Allocation], f: Fields) -> Seen
+    requires { ⌜ (length (now accounts) ≡ 32) × (length (now ledger) ≡ 256) ⌝ }
+    ensures { λ r. ⌜ r ≡ seenIn m (now (accounts .entry)) (now (ledger .entry)) f ⌝ }
+{
+    let here = get(ledger, place(m, f));
+    let first = account_at(accounts, slot_of(f.a));
+    let second = account_at(accounts, slot_of(f.b));
+    let judged = account_at(accounts, slot_of(judged_by(f, here)));
+    pack(first, second, here, judged)
+}
+
+// An array of the first n records; the others are empty.
+pub fn load(ledger: &[Allocation], n: usize) -> [Allocation; 256]
+    requires { ⌜ (n ≤ length (now ledger)) × (n ≤ 256) ⌝ }
+    ensures { λ r. ⌜ r ≡ take n (now (ledger .entry)) ++ replicate (256 - n) noAllocation ⌝ }
+{
+    let mut t = no_allocations();
+    let mut i: usize = 0;
+    while i < n {
+        t = with_record(t, i, ledger[i]);
+        i += 1;
+    }
+    t
+}
+
+// The same of the first n accounts.
+pub fn load_accounts(accounts: &[Account], n: usize) -> [Account; 32]
+    requires { ⌜ (n ≤ length (now accounts)) × (n ≤ 32) ⌝ }
+    ensures { λ r. ⌜ r ≡ take n (now (accounts .entry)) ++ replicate (32 - n) noAccount ⌝ }
+{
+    let mut t = no_accounts();
+    let mut i: usize = 0;
+    while i < n {
+        t = with_account(t, i, accounts[i]);
+        i += 1;
+    }
+    t
+}
+
+// An array of records, written back whole.
+pub fn store(ledger: &mut [Allocation], t: [Allocation; 256])
+    requires { ⌜ length (now ledger) ≡ 256 ⌝ }
+    ensures { λ _. ⌜ now (ledger .exit) ≡ t ⌝ }
+{
+    let mut i: usize = 0;
+    while i < 256 {
+        ledger[i] = record_at(t, i);
+        i += 1;
+    }
+}
+
+// 256 empty records.
+fn no_allocations() -> [Allocation; 256]
+    ensures { λ r. ⌜ r ≡ replicate 256 noAllocation ⌝ }
+{
+    let l = Allocation {
+        generator: 0,
+        customer: 0,
+        quantity: Thousandths(0),
+        status: Status::Empty,
+    };
+    [l; 256]
+}
+
+// 32 accounts of nobody.
+fn no_accounts() -> [Account; 32]
+    ensures { λ r. ⌜ r ≡ replicate 32 noAccount ⌝ }
+{
+    let a = Account {
+        roles: 0,
+        requirement: Thousandths(0),
+        figure: Cents(0),
+        net: Net(0),
+    };
+    [a; 32]
+}
+
+// The array with one record more.
+fn with_record(t: [Allocation; 256], i: usize, l: Allocation) -> [Allocation; 256]
+    requires { ⌜ i < 256 ⌝ }
+    ensures { λ r. ⌜ r ≡ set t i l ⌝ }
+{
+    let mut u = t;
+    u[i] = l;
+    u
+}
+
+fn with_account(t: [Account; 32], i: usize, a: Account) -> [Account; 32]
+    requires { ⌜ i < 32 ⌝ }
+    ensures { λ r. ⌜ r ≡ set t i a ⌝ }
+{
+    let mut u = t;
+    u[i] = a;
+    u
+}
+
+fn record_at(t: [Allocation; 256], i: usize) -> Allocation
+    requires { ⌜ i < 256 ⌝ }
+    ensures { λ r. ⌜ r ≡ getD t i noAllocation ⌝ }
+{
+    t[i]
+}

@@ -1,0 +1,128 @@
+// The table of levels: sums over days, what is in a credit step's way, and what the step does to them.
+ghost use mathlib.Core.Path.{_≡_};
+ghost use Prim.Native.Nat.{_+_, _-_, _*_, _≤_, _<_};
+ghost use lib.ListN.{getD};
+ghost use Rattle.book.specs.Book.{participants, mostDays, mostLevel, mostQuantity, levelPlaces};
+ghost use Rattle.book.specs.Words.{levelPlace, overDays};
+ghost use Rattle.book.specs.Steps.{changed};
+ghost use Rattle.ledger.specs.Judge.{tradeableIn, blocks, blockedIn};
+ghost use Rattle.ledger.specs.After.{movedBy, levelsAfter};
+ghost use Rattle.ledger.specs.Ready.{LevelsFit, CreditDone};
+use crate::judge::Verdict;
+use crate::tests::PARTICIPANTS;
+use crate::tests::either;
+use book::Month;
+use record::Fields;
+use units::Thousandths;
+
+// The most that a level can be.
+pub const MOST_LEVEL: u32 = 10_000_000;
+
+// The place of a level in the table.
+pub fn level_place(participant: u8, kind: u8, day: u8) -> usize
+    requires { ⌜ (participant < participants) × ((0 < kind) × ((kind ≤ 4) × ((0 < day) × (day ≤ mostDays)))) ⌝ }
+    ensures { λ r. ⌜ (r ≡ levelPlace participant kind day) × (r + 32 ≤ levelPlaces + day) ⌝ }
+{
+    participant as usize * 124 + (kind as usize - 1) * 31 + (day as usize - 1)
+}
+
+// The levels of so many days, from a place on.
+fn over_days(levels: &[u32], from: usize, days: usize) -> u64
+    requires { ⌜ LevelsFit (now levels) × ((from + days ≤ levelPlaces) × (days ≤ mostDays)) ⌝ }
+    ensures { λ r. ⌜ (r ≡ overDays days (λ day. getD (now (levels .entry)) (from + (day - 1)) 0)) × (r ≤ days * mostLevel) ⌝ }
+{
+    let mut sum: u64 = 0;
+    let mut i: usize = 0;
+    while i < days {
+        sum += levels[from + i] as u64;
+        i += 1;
+    }
+    sum
+}
+
+// Tradeable credits of a participant; 0 past the last one, and where the month has no day.
+pub fn tradeable(levels: &[u32], days: u8, participant: u8) -> Thousandths
+    requires { ⌜ LevelsFit (now levels) × (days ≤ mostDays) ⌝ }
+    ensures { λ r. ⌜ (r .0 ≡ tradeableIn (now (levels .entry)) days participant) × (r .0 ≤ mostQuantity) ⌝ }
+{
+    if PARTICIPANTS <= participant {
+        return Thousandths(0);
+    }
+    if days == 0 {
+        return Thousandths(0);
+    }
+    let from = participant as usize * 124;
+    let sum = over_days(levels, from, days as usize) + over_days(levels, from + 31, days as usize);
+    Thousandths((sum / days as u64) as u32)
+}
+
+// A level that a CREATE of q would pass, or that a TERMINATE of q takes more than.
+fn is_blocked(creates: bool, q: u32, level: u32) -> bool
+    requires { ⌜ (q ≤ mostLevel) × (level ≤ mostLevel) ⌝ }
+    ensures { λ r. ⌜ r ≡ blocks creates q level ⌝ }
+{
+    if creates {
+        MOST_LEVEL < level + q
+    } else {
+        level < q
+    }
+}
+
+// Whether some level from a place on, so many of them, is in the way.
+pub fn any_blocked(creates: bool, q: u32, levels: &[u32], from: usize, days: usize) -> bool
+    requires { ⌜ LevelsFit (now levels) × ((from + days ≤ levelPlaces) × (q ≤ mostLevel)) ⌝ }
+    ensures { λ r. ⌜ r ≡ blockedIn creates q (now (levels .entry)) from days ⌝ }
+{
+    let mut found = false;
+    let mut i: usize = 0;
+    while i < days {
+        let blocked = is_blocked(creates, q, levels[from + i]);
+        found = either(found, blocked);
+        i += 1;
+    }
+    found
+}
+
+// One level, raised or lowered by q.
+fn moved(creates: bool, q: u32, level: u32) -> u32
+    requires { ⌜ (q ≤ mostLevel) × (level ≤ mostLevel) ⌝ }
+    ensures { λ r. ⌜ r ≡ movedBy creates q level ⌝ }
+{
+    if creates {
+        return level + q;
+    }
+    if level < q {
+        return 0;
+    }
+    level - q
+}
+
+// So many levels from a place on, each raised or lowered by q.
+fn move_levels(creates: bool, q: u32, levels: &mut [u32], from: usize, days: usize)
+    requires { ⌜ LevelsFit (now levels) × ((from + days ≤ levelPlaces) × (q ≤ mostLevel)) ⌝ }
+    ensures { λ _. ⌜ now (levels .exit) ≡ changed (movedBy creates q) (now (levels .entry)) from days ⌝ }
+{
+    let mut i: usize = 0;
+    while i < days {
+        levels[from + i] = moved(creates, q, levels[from + i]);
+        i += 1;
+    }
+}
+
+// What a done CREATE or TERMINATE does to the levels; no other step touches them.
+pub fn credit(levels: &mut [u32], m: Month, f: Fields, v: Verdict)
+    requires { ⌜ LevelsFit (now levels) × CreditDone m f v ⌝ }
+    ensures { λ _. ⌜ now (levels .exit) ≡ levelsAfter m f v (now (levels .entry)) ⌝ }
+{
+    if v.reason != 0 {
+        return;
+    }
+    if f.kind != 6 {
+        if f.kind != 7 {
+            return;
+        }
+    }
+    let from = level_place(f.a, f.selector, f.day);
+    let days = m.days as usize + 1 - f.day as usize;
+    move_levels(f.kind == 6, f.quantity.0, levels, from, days);
+}

@@ -1,0 +1,16 @@
+// Steps on a book, from what a record asks to what it leaves, as private functions: each states its
+// result as an equation with a definition of `specs/`, and `proofs/Placed` shows that together they
+// are document 01's answer and book for every record on a sound book.
+mod after; // after.rt: what a step leaves, part by part, from its verdict
+mod asked; // asked.rt: what a record asks
+mod check; // check.rt: whether a lent book is sound, and the totals of its ledger
+mod cut; // cut.rt: the operator's cut, through the promise of share
+mod gate; // gate.rt: reasons 1 to 11, by kind
+mod judge; // judge.rt: reasons 12 to 15, and the verdict
+mod lent; // lent.rt: the ledger and the accounts, lent as runs of records
+mod levels; // levels.rt: the table of levels
+mod limits; // limits.rt: one part of a book against its limits
+mod margin; // margin.rt: the margin test
+mod seen; // seen.rt: what a step sees of the accounts and the ledger
+mod tests; // tests.rt: small tests, and how they make a reason
+mod totals; // totals.rt: the totals of each participant
