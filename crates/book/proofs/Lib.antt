@@ -23,3 +23,4 @@ pub mod Touched
 pub mod Put
 pub mod Given
 pub mod Origin
+pub mod CutPromise

@@ -26,11 +26,11 @@ pub record NoReason (b : Book) (s : Step) : Type 0 where
   pub no15 : reason15 b s ≡ false
 
 -- a reason that does not apply, and the answer of the later ones
-record Later (t : Bool) (r : ℕ) : Type 0 where
-  no : t ≡ false
-  later : r ≡ 0
+pub record Later (t : Bool) (r : ℕ) : Type 0 where
+  pub no : t ≡ false
+  pub later : r ≡ 0
 
-pass : (t : Bool) (k r : ℕ) → cond t (suc k) r ≡ 0 → Later t r
+pub pass : (t : Bool) (k r : ℕ) → cond t (suc k) r ≡ 0 → Later t r
 pass true k r e = absurd (omega arith)
 pass false k r e = record { no = refl; later = e }
 

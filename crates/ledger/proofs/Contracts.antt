@@ -1,20 +1,30 @@
 -- The terms of this crate's functions, as a walk that calls them cites them: `calls Get ! …` is the call of `get` as one step (`Walk.Calls`). The terms of a function that is walked are those its own proof is of; the others' are read off their contracts where a walk cites their theorems.
 -- Assumes nothing: these are definitions.
 use mathlib.Core.Path.{_≡_}
+use mathlib.Core.Bool.{true, cond, _&&_}
 use mathlib.Core.Option.{some, none}
 use Prim.Native.Nat.{_<_}
 use mathlib.Core.List.{[], _∷_}
+use lib.Dec.{eqb}
 use lib.ListN.{length, getD, set}
-use mir.Syntax.{w8, w64}
-use Rattle.book.specs.Book.{noAccount, noAllocation}
-use Rattle.ledger.specs.Judge.{slot, placeOf, judgedBy, seenIn}
-use Rattle.ledger.specs.After.{registeredIn, requirementIn, marginSetIn, accountAfter}
+use mir.Syntax.{w8, w32, w64}
+use Rattle.record.specs.Record.{decodeOf}
+use Rattle.book.specs.Book.{noAccount, noAllocation, participants, levelPlaces, mostGiven}
+use Rattle.book.specs.Cut.{cut}
+use Rattle.book.specs.Sound.{sound}
+use Rattle.ledger.specs.Judge.{slot, placeOf, judgedBy, seenIn, verdictIn}
+use Rattle.ledger.specs.After.{did, registeredIn, requirementIn, marginSetIn, accountAfter, allocationAfter, monthAfter, levelsAfter, totalsAfter, answerIn}
+use Rattle.ledger.specs.Check.{bookFrom, CappedTotals}
+use Rattle.ledger.specs.Inner.{Able, RecutTotals, Steps}
+use Rattle.ledger.specs.Answering.{Answers}
+use Rattle.ledger.specs.Leaves.{askedOf, recutAfter}
+use Rattle.ledger.specs.Ready.{LevelsFit, SumsFit, Judgeable, CreditDone, TotalsMove, MonthMove, CutFits}
 use Rattle.ledger.proofs.Element.{get-terms, put-terms}
 use Rattle.ledger.proofs.Loader.{load-terms}
-use Rattle.ledger.proofs.Records.{account, allocation, fields, month, seen, verdict}
+use Rattle.ledger.proofs.Records.{thousandths, account, allocation, fields, month, seen, stepped, verdict}
 use Rattle.ledger.proofs.Setter.{with-terms, set-terms}
 use Rattle.ledger.proofs.Storer.{store-terms}
-use Rattle.ledger.proofs.Walk.Values.{number, nothing, struct}
+use Rattle.ledger.proofs.Walk.Values.{number, boolean, nothing, struct, array}
 use Rattle.ledger.proofs.Walk.Terms.{Terms, plain, shared, mutable}
 
 -- ---- what a step sees
@@ -96,4 +106,143 @@ WriteAccount = record {
   result = nothing;
   requires = some (λ a. a .1 .0 < length (a .0));
   ensures = λ a r ws. ws .0 ≡ set (a .0) (a .1 .0) (accountAfter (a .1 .1 .0) (a .1 .1 .1 .0) (getD (a .0) (a .1 .0) noAccount));
+}
+
+-- ---- the operator's cut
+abbrev pub IsDone : Terms
+IsDone = record {
+  params = plain (struct verdict) ∷ plain (struct fields) ∷ plain (number w8) ∷ [];
+  result = boolean;
+  requires = none;
+  ensures = λ a r ws. r ≡ did (a .0) (a .1 .0) (a .1 .1 .0);
+}
+
+abbrev pub CutTo : Terms
+CutTo = record {
+  params = plain (number w8) ∷ plain (struct thousandths) ∷ plain (array (struct allocation) 256) ∷ [];
+  result = array (struct allocation) 256;
+  requires = some (λ a. CutFits (a .0) (a .1 .0 .0) (a .1 .1 .0));
+  ensures = λ a r ws. r ≡ cut (a .0) (a .1 .0 .0) (a .1 .1 .0);
+}
+
+abbrev pub TotalUp : Terms
+TotalUp = record {
+  params = plain (array (struct allocation) 256) ∷ [];
+  result = array (number w32) 96;
+  requires = none;
+  ensures = λ a r ws. CappedTotals r (a .0);
+}
+
+abbrev pub Replace : Terms
+Replace = record {
+  params = mutable (number w32) ∷ plain (array (number w32) 96) ∷ [];
+  result = nothing;
+  requires = some (λ a. length (a .0) ≡ 96);
+  ensures = λ a r ws. ws .0 ≡ a .1 .0;
+}
+
+abbrev pub Recut : Terms
+Recut = record {
+  params = mutable (struct allocation) ∷ mutable (number w32) ∷ plain (struct fields) ∷ plain (struct verdict) ∷ [];
+  result = nothing;
+  requires = some (λ a. (length (a .0) ≡ 256) × ((length (a .1 .0) ≡ 96) × (did (a .1 .1 .1 .0) (a .1 .1 .0) 14 ≡ true → CutFits (a .1 .1 .0 .a) (a .1 .1 .1 .0 .credits .0) (a .0))));
+  ensures = λ a r ws. (ws .0 ≡ recutAfter (a .1 .1 .0) (a .1 .1 .1 .0) (a .0)) × RecutTotals (a .1 .1 .0) (a .1 .1 .1 .0) (a .1 .0) (ws .1 .0) (ws .0);
+}
+
+-- ---- a step, from its verdict to what it leaves
+abbrev pub Judge : Terms
+Judge = record {
+  params = plain (struct month) ∷ shared (number w32) ∷ shared (number w32) ∷ plain (struct seen) ∷ plain (struct fields) ∷ [];
+  result = struct verdict;
+  requires = some (λ a. Judgeable (a .0) (a .1 .0) (a .1 .1 .0) (a .1 .1 .1 .0));
+  ensures = λ a r ws. (r ≡ verdictIn (a .0) (a .1 .0) (a .1 .1 .0) (a .1 .1 .1 .0) (a .1 .1 .1 .1 .0)) × SumsFit (r .sums);
+}
+
+abbrev pub AllocationAfter : Terms
+AllocationAfter = record {
+  params = plain (struct allocation) ∷ plain (struct fields) ∷ plain (struct verdict) ∷ [];
+  result = struct allocation;
+  requires = none;
+  ensures = λ a r ws. r ≡ allocationAfter (a .1 .0) (a .1 .1 .0) (a .0);
+}
+
+abbrev pub MoveTotals : Terms
+MoveTotals = record {
+  params = mutable (number w32) ∷ plain (struct allocation) ∷ plain (struct allocation) ∷ [];
+  result = nothing;
+  requires = some (λ a. TotalsMove (a .0) (a .1 .0) (a .1 .1 .0));
+  ensures = λ a r ws. ws .0 ≡ totalsAfter (a .1 .0) (a .1 .1 .0) (a .0);
+}
+
+abbrev pub Credit : Terms
+Credit = record {
+  params = mutable (number w32) ∷ plain (struct month) ∷ plain (struct fields) ∷ plain (struct verdict) ∷ [];
+  result = nothing;
+  requires = some (λ a. LevelsFit (a .0) × CreditDone (a .1 .0) (a .1 .1 .0) (a .1 .1 .1 .0));
+  ensures = λ a r ws. ws .0 ≡ levelsAfter (a .1 .0) (a .1 .1 .0) (a .1 .1 .1 .0) (a .0);
+}
+
+abbrev pub Finish : Terms
+Finish = record {
+  params = plain (struct month) ∷ plain (struct fields) ∷ plain (struct verdict) ∷ [];
+  result = struct stepped;
+  requires = some (λ a. MonthMove (a .0) (a .1 .0) (a .1 .1 .0));
+  ensures = λ a r ws. (r .month ≡ monthAfter (a .1 .0) (a .1 .1 .0) (a .0)) × ((r .answer .reason ≡ answerIn (a .0) (a .1 .0) (a .1 .1 .0) .reason) × (r .answer .number ≡ answerIn (a .0) (a .1 .0) (a .1 .1 .0) .number));
+}
+
+abbrev pub StepOn : Terms
+StepOn = record {
+  params = plain (struct month) ∷ mutable (struct account) ∷ mutable (number w32) ∷ mutable (struct allocation) ∷ mutable (number w32) ∷ plain (struct fields) ∷ [];
+  result = struct stepped;
+  requires = some (λ a. Able (bookFrom (a .0) (a .1 .0) (a .1 .1 .0) (a .1 .1 .1 .0)) (a .1 .1 .1 .1 .0) (a .1 .1 .1 .1 .1 .0));
+  ensures = λ a r ws. Steps (bookFrom (a .0) (a .1 .0) (a .1 .1 .0) (a .1 .1 .1 .0)) (a .1 .1 .1 .1 .0) (a .1 .1 .1 .1 .1 .0) r (ws .1 .0) (ws .1 .1 .0) (ws .1 .1 .1 .0) (ws .1 .1 .1 .1 .0);
+}
+
+-- ---- one record on a lent book
+abbrev pub HasRightLengths : Terms
+HasRightLengths = record {
+  params = plain (struct month) ∷ plain (number w64) ∷ plain (number w64) ∷ plain (number w64) ∷ [];
+  result = boolean;
+  requires = none;
+  ensures = λ a r ws. r ≡ (eqb (length (a .0 .windows)) 4 && (eqb (a .1 .0) participants && (eqb (a .1 .1 .0) levelPlaces && eqb (a .1 .1 .1 .0) mostGiven)));
+}
+
+abbrev pub Rows : Terms
+Rows = record {
+  params = plain boolean ∷ plain (number w64) ∷ [];
+  result = number w64;
+  requires = none;
+  ensures = λ a r ws. r ≡ cond (a .0) (a .1 .0) 0;
+}
+
+abbrev pub IsUsable : Terms
+IsUsable = record {
+  params = plain boolean ∷ plain (struct month) ∷ plain (array (struct account) 32) ∷ shared (number w32) ∷ plain (array (struct allocation) 256) ∷ plain (array (number w32) 96) ∷ [];
+  result = boolean;
+  requires = some (λ a. (a .0 ≡ true → length (a .1 .1 .1 .0) ≡ levelPlaces) × CappedTotals (a .1 .1 .1 .1 .1 .0) (a .1 .1 .1 .1 .0));
+  ensures = λ a r ws. r ≡ (a .0 && sound (bookFrom (a .1 .0) (a .1 .1 .0) (a .1 .1 .1 .0) (a .1 .1 .1 .1 .0)));
+}
+
+abbrev pub AskedBy : Terms
+AskedBy = record {
+  params = shared (number w8) ∷ [];
+  result = struct fields;
+  requires = none;
+  ensures = λ a r ws. r ≡ askedOf (decodeOf (a .0));
+}
+
+abbrev pub Unusable : Terms
+Unusable = record {
+  params = plain (struct month) ∷ [];
+  result = struct stepped;
+  requires = none;
+  ensures = λ a r ws. r ≡ record { month = a .0; answer = record { reason = 1; number = 0 } };
+}
+
+abbrev pub Step : Terms
+Step = record {
+  params = plain (struct month) ∷ mutable (struct account) ∷ mutable (number w32) ∷ mutable (struct allocation) ∷ shared (number w8) ∷ [];
+  result = struct stepped;
+  requires = none;
+  ensures = λ a r ws. Answers (bookFrom (a .0) (a .1 .0) (a .1 .1 .0) (a .1 .1 .1 .0)) (a .1 .1 .1 .1 .0) r (ws .1 .0) (ws .1 .1 .0) (ws .1 .1 .1 .0);
 }

@@ -23,7 +23,7 @@ use Rattle.ledger.specs.Ready.{LevelsFit, TotalsFit, Totalled, MonthFits
 use Rattle.ledger.specs.Check.{CappedTotals}
 
 -- what holds of every open book and of the fresh one
-by-kind : (P : Book → Type 0) → ((b : Book) → Opened b → P b) → P fresh → (b : Book) → usable b ≡ true → P b
+pub by-kind : (P : Book → Type 0) → ((b : Book) → Opened b → P b) → P fresh → (b : Book) → usable b ≡ true → P b
 by-kind P opened none b u = by (isOpen b) refl
   where
     by : (t : Bool) → isOpen b ≡ t → P b

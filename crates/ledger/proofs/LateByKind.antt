@@ -4,7 +4,7 @@
 use mathlib.Core.Path.{_≡_, refl, sym, ap, fun-ext, _∙_}
 use mathlib.Core.Bool.{Bool, true, false, cond}
 use mathlib.Core.List.{List}
-use Prim.Native.Nat.{ℕ, suc, _+_, _-_, _≤_, _<_, zero-le}
+use Prim.Native.Nat.{ℕ, _+_, _-_, _≤_, _<_, zero-le}
 use native.Mathlib.Omega.{arith}
 use lib.Dec.{eqb, ltb}
 use lib.ListN.{getD}
@@ -20,6 +20,7 @@ use Rattle.book.specs.Run.{usable}
 use Rattle.book.proofs.Tests.{parts, neither}
 use Rattle.book.proofs.Sound.{Opened, Given, opened-of, fresh-of, fresh-lengths}
 use Rattle.book.proofs.Bounds.{role-below, generator-below, customer-below}
+use Rattle.book.proofs.NoReason.{pass}
 use Rattle.ledger.specs.declared.seen.Seen.{Seen}
 use Rattle.ledger.specs.declared.totals.Totals.{Totals}
 use Rattle.ledger.specs.Judge.{judgedBy, seenIn, totalsAt, tradeableIn, blockedIn, marginIn, lateOf, gateIn, creditsIn, verdictIn}
@@ -63,22 +64,17 @@ record Passed (b : Book) (s : Step) : Type 0 where
   known : reason5 b s ≡ false
   in-range : inRange b s ≡ true
 
--- one line of the table: its reason does not apply, and no later one
-line : (t : Bool) (n rest : ℕ) → cond t (suc n) rest ≡ 0 → (t ≡ false) × (rest ≡ 0)
-line true n rest h = absurd (omega arith)
-line false n rest h = (refl, h)
-
 module _ (b : Book) (u : usable b ≡ true) where
   passed-of : (s : Step) → is OPEN s ≡ false → earlyReasonOf b s ≡ 0 → Passed b s
   unfolding earlyReasonOf reason2
   passed-of s k h =
-      let l2 = line (reason2 b s) 1 _ h in
-      let l3 = line (reason3 b s) 2 _ (l2 .1) in
-      let l4 = line (reason4 b s) 3 _ (l3 .1) in
-      let l5 = line (reason5 b s) 4 _ (l4 .1) in
-      let l6 = line (reason6 b s) 5 _ (l5 .1) in
-      let l7 = line (reason7 b s) 6 _ (l6 .1) in
-      record { opened = opened-of b u (not-false (isOpen b) (rw k at (l2 .0))); known = l5 .0; in-range = not-false (inRange b s) (l7 .0) }
+      let l2 = pass (reason2 b s) 1 _ h in
+      let l3 = pass (reason3 b s) 2 _ (l2 .later) in
+      let l4 = pass (reason4 b s) 3 _ (l3 .later) in
+      let l5 = pass (reason5 b s) 4 _ (l4 .later) in
+      let l6 = pass (reason6 b s) 5 _ (l5 .later) in
+      let l7 = pass (reason7 b s) 6 _ (l6 .later) in
+      record { opened = opened-of b u (not-false (isOpen b) (rw k at (l2 .no))); known = l5 .no; in-range = not-false (inRange b s) (l7 .no) }
 
   -- the early part, on an open book and on the fresh one
   pub gate-of : (s : Step) → gateIn (b .month) (seenOf b s) (apartOf s) ≡ earlyReasonOf b s

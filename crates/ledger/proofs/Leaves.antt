@@ -1,6 +1,6 @@
 -- What the code works out part by part is the book of document 01. A part that a kind does not write is written back as it was read; the part that it
 -- writes is at the place of its participant, or of its number, which a done step has inside the tables. Assumes nothing.
-use mathlib.Core.Path.{_≡_, refl, ap, sym, _∙_}
+use mathlib.Core.Path.{_≡_, refl, ap}
 use mathlib.Core.Bool.{Bool, true, false, cond, _&&_}
 use mathlib.Core.List.{List}
 use Prim.Native.Nat.{ℕ, _+_, _-_, _≤_, _<_}
@@ -8,14 +8,13 @@ use native.Mathlib.Omega.{arith}
 use borrow.Author.Tests.{lt-ltb, le-leb, eqb-true}
 use lib.Dec.{eqb}
 use lib.IntN.{pos, _-ℤ_}
-use lib.ListN.{getD, set}
 use lib.Seq.{set-getD}
 use Rattle.record.specs.declared.form.Fields.{Fields}
 use Rattle.record.specs.declared.Step.{Step}
 use Rattle.record.specs.declared.Step.the-variants.{Open, Window, Register, Requirement, Margin, Create, Terminate, Submit, Withdraw, Accept, AskReversal, AgreeReversal, GeneratorAmends, OperatorAmends}
 use Rattle.record.specs.declared.Decoded.the-variants as D
 use Rattle.record.specs.Record.{written as apartOf}
-use Rattle.book.specs.Book.{Book, noAccount, noAllocation, participants, mostGiven}
+use Rattle.book.specs.Book.{Book, participants, mostGiven}
 use Rattle.book.specs.Words.{net, tradeable}
 use Rattle.book.specs.Kinds.{is, kindOf, SUBMIT}
 use Rattle.book.specs.Reasons.{reasonOf}

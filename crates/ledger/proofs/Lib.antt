@@ -7,6 +7,8 @@ pub mod ByKind
 pub mod LateByKind
 pub mod Leaves
 pub mod Placed
+pub mod Able
+pub mod Stepping
 pub mod Turns
 pub mod Cutting
 pub mod Tally

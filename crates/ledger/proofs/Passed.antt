@@ -1,10 +1,10 @@
 -- What a step that no reason of 1 to 11 refuses has inside its limits: of a chain of reasons that comes to 0 each is 0 (`first-passes`), so that each of
 -- its tests held. A participant past the last one has no roles, so that reason 5 refuses it. Assumes nothing.
 use mathlib.Core.Path.{_≡_, refl, sym}
-use mathlib.Core.Bool.{Bool, true, false, cond, not, _&&_, false≢true}
+use mathlib.Core.Bool.{Bool, true, false, cond, not, _&&_, _||_, false≢true}
 use mathlib.Core.Logic.{_⊎_, inl, inr}
 use mathlib.Core.List.{List}
-use Prim.Native.Nat.{ℕ, _≤_, _<_}
+use Prim.Native.Nat.{ℕ, _-_, _≤_, _<_}
 use native.Mathlib.Omega.{arith}
 use lib.Dec.{eqb, ltb}
 use lib.IntN.{natAbs}
@@ -18,8 +18,8 @@ use Rattle.book.specs.Reasons.{from-to}
 use Rattle.book.proofs.Tests.{parts}
 use Rattle.ledger.specs.declared.seen.Seen.{Seen}
 use Rattle.ledger.specs.declared.totals.Totals.{Totals}
-use Rattle.ledger.specs.Gate.{when, first, rolesOf, gateOf, windowReason, creditReason, submitReason}
-use Rattle.ledger.specs.Judge.{gateIn, verdictIn}
+use Rattle.ledger.specs.Gate.{when, first, rolesOf, gateOf, windowReason, creditReason, submitReason, amendReason}
+use Rattle.ledger.specs.Judge.{totalsAt, tradeableIn, lateOf, gateIn, verdictIn}
 use Rattle.ledger.specs.Ready.{SumsFit, CreditFits, LateFits, CreditDone, Judgeable, MonthMove}
 
 -- ---- a chain of reasons
@@ -56,7 +56,7 @@ between : (low high n : ℕ) → from-to low high n ≡ true → (low ≤ n) × 
 between low high n h = (leb-true low n (search parts), leb-true n high (search parts))
 
 -- who has roles is a participant
-roles-below : (p : ℕ) (a : Account) → eqb (rolesOf p a) 0 ≡ false → p < participants
+pub roles-below : (p : ℕ) (a : Account) → eqb (rolesOf p a) 0 ≡ false → p < participants
 roles-below p a = by (ltb p participants) refl
   where
     by : (t : Bool) → ltb p participants ≡ t → eqb (cond t (a .roles) 0) 0 ≡ false → p < participants
@@ -102,6 +102,18 @@ module _ (m : Month) (roles customers : ℕ) (here : Allocation) (f : Fields) (p
   pub submit-number : f .kind ≡ 8 → m .given < mostGiven
   submit-number k = let p = submit-reason k in leb-false mostGiven (m .given) (when-passes _ 11 (omega arith) (search chain))
 
+  -- and both participants
+  pub submit-registered : f .kind ≡ 8 → (eqb roles 0 || eqb customers 0) ≡ false
+  submit-registered k = let p = submit-reason k in when-passes _ 5 (omega arith) (search chain)
+
+  -- GENERATOR AMENDS: the quantity
+  amend-reason : f .kind ≡ 13 → amendReason m roles here f ≡ 0
+  unfolding gateOf
+  amend-reason k = rw k at passed
+
+  pub amend-quantity : f .kind ≡ 13 → f .quantity .0 ≤ mostQuantity
+  amend-quantity k = let p = amend-reason k in leb-true (f .quantity .0) mostQuantity (unless-passes _ 7 (omega arith) (search chain))
+
 -- a credit step that is not refused yet
 pub credit-inside : (m : Month) (a : Account) (customers : ℕ) (here : Allocation) (f : Fields) → m .days ≤ mostDays → gateOf m (rolesOf (f .a) a) customers here f ≡ 0 → (f .kind ≡ 6) ⊎ (f .kind ≡ 7) → CreditFits m f
 credit-inside m a customers here f days passed k =
@@ -134,7 +146,7 @@ module _ (m : Month) (lv ts : List ℕ) (seen : Seen) (f : Fields) where
   }
 
   -- a done step has passed the gate
-  gate-passed : verdictIn m lv ts seen f .reason ≡ 0 → gateIn m seen f ≡ 0
+  pub gate-passed : verdictIn m lv ts seen f .reason ≡ 0 → gateIn m seen f ≡ 0
   unfolding verdictIn first
   gate-passed done = earlier (gateIn m seen f) _ done
 
@@ -147,3 +159,12 @@ module _ (m : Month) (lv ts : List ℕ) (seen : Seen) (f : Fields) where
 
   pub verdict-credit-done : m .days ≤ mostDays → CreditDone m f (verdictIn m lv ts seen f)
   verdict-credit-done days done = credit-inside m (seen .first) _ (seen .here) f days (gate-passed done)
+
+  -- OPERATOR AMENDS: the credits are below what the generator has made
+  pub verdict-excess : verdictIn m lv ts seen f .reason ≡ 0 → f .kind ≡ 14 → verdictIn m lv ts seen f .credits .0 < totalsAt ts (f .a) .made .0
+  unfolding verdictIn lateOf
+  verdict-excess done k =
+      let made : ℕ = totalsAt ts (f .a) .made .0 in
+      let credits : ℕ = tradeableIn lv (m .days) (f .a) in
+      let late : when (eqb (made - credits) 0) 15 ≡ 0 = rw (gate-passed done, k) at done in
+      rw (gate-passed done, k) (omega (arith, eqb-false (made - credits) 0 (when-passes (eqb (made - credits) 0) 15 (omega arith) late)))

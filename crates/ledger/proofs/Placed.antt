@@ -3,7 +3,7 @@
 use mathlib.Core.Path.{_≡_, refl, sym, ap, _∙_}
 use mathlib.Core.Bool.{Bool, true, false, cond, _||_}
 use mathlib.Core.List.{List}
-use Prim.Native.Nat.{ℕ, suc, _+_, _-_, _≤_, _<_}
+use Prim.Native.Nat.{ℕ}
 use native.Mathlib.Omega.{arith}
 use lib.Dec.{eqb, ltb}
 use lib.IntN.{pos, _-ℤ_}
@@ -21,11 +21,11 @@ use Rattle.book.specs.Run.{usable, decodedBook, decodedAnswer}
 use Rattle.book.proofs.Tests.{and-left, neither}
 use Rattle.book.proofs.Sound.{Opened, opened-of}
 use Rattle.book.proofs.NoReason.{NoReason, no-reason}
-use Rattle.ledger.specs.Judge.{verdictIn, totalsAt, tradeableIn}
+use Rattle.ledger.specs.Judge.{verdictIn, tradeableIn}
 use Rattle.ledger.specs.Ready.{Totalled}
 use Rattle.ledger.specs.After.{answerIn}
 use Rattle.ledger.specs.Leaves.{askedOf, verdictOn, leaves}
-use Rattle.ledger.proofs.ByKind.{earlyReasonOf, lateReasonOf, given-range, gate-is, reason-split}
+use Rattle.ledger.proofs.ByKind.{earlyReasonOf, lateReasonOf, given-range, reason-split}
 use Rattle.ledger.proofs.LateByKind.{totals-is, registered-below, gate-of, verdict-reason}
 use Rattle.ledger.proofs.Leaves.{Numbered, Placed, leaves-is, refused-leaves, answers-is, nothing-asked, nothing-answered}
 

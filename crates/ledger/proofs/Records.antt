@@ -1,5 +1,7 @@
 -- The records of the market as the walks cite them.
 -- Assumes nothing.
+use Rattle.units.proofs.Thousandths as Thousandths
+use Rattle.units.proofs.Thousandths.Laws as ThousandthsLaws
 use Rattle.record.proofs.form.Fields as Fields
 use Rattle.record.proofs.form.Fields.Laws as FieldsLaws
 use Rattle.book.proofs.Account as Account
@@ -8,11 +10,16 @@ use Rattle.book.proofs.Allocation as Allocation
 use Rattle.book.proofs.Allocation.Laws as AllocationLaws
 use Rattle.book.proofs.Month as Month
 use Rattle.book.proofs.Month.Laws as MonthLaws
+use Rattle.ledger.proofs.after.Stepped as Stepped
+use Rattle.ledger.proofs.after.Stepped.Laws as SteppedLaws
 use Rattle.ledger.proofs.judge.Verdict as Verdict
 use Rattle.ledger.proofs.judge.Verdict.Laws as VerdictLaws
 use Rattle.ledger.proofs.seen.Seen as Seen
 use Rattle.ledger.proofs.seen.Seen.Laws as SeenLaws
 use Rattle.ledger.proofs.Walk.Values.{Struct}
+
+abbrev pub thousandths : Struct
+thousandths = record { type = Thousandths.the-type; laws = ThousandthsLaws.the-laws; plain = ThousandthsLaws.the-plain }
 
 abbrev pub account : Struct
 account = record { type = Account.the-type; laws = AccountLaws.the-laws; plain = AccountLaws.the-plain }
@@ -31,3 +38,6 @@ month = record { type = Month.the-type; laws = MonthLaws.the-laws; plain = Month
 
 abbrev pub seen : Struct
 seen = record { type = Seen.the-type; laws = SeenLaws.the-laws; plain = SeenLaws.the-plain }
+
+abbrev pub stepped : Struct
+stepped = record { type = Stepped.the-type; laws = SteppedLaws.the-laws; plain = SteppedLaws.the-plain }

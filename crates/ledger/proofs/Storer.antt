@@ -1,6 +1,7 @@
 -- An array of N records written back whole to a lent list of N, for any declared type of plain data:
 --     fn store(xs: &mut [T], t: [T; N]) { let mut i = 0; while i < N { xs[i] = at(t, i); i += 1; } }
 -- The elements are owned throughout. A turn calls `at` and stores the record whole at place i; what the turns carry is the list: the first i records of t, and then those of before.
+--     stored           that list, with its length, how a turn changes it, and what it is at the end
 --     at-terms         the terms of the function by value that it calls
 --     store-terms, store-mir, store-meets      its own, its MIR, and that it meets them where `at` meets its
 -- Assumes nothing.
@@ -45,18 +46,18 @@ use Rattle.ledger.proofs.Walk.Loop.{Turn, turns, turn-of, loop-then, le
 -- ---- of lists
 module _ {D : Type 0} (none : D) (t ys : List D) (e : length t ≡ length ys) where
   -- the first i of t, and then those of ys
-  abbrev stored : ℕ → List D
+  abbrev pub stored : ℕ → List D
   stored i = take i t ++ drop i ys
 
-  stored-length : (i : ℕ) → i ≤ length ys → length (stored i) ≡ length ys
+  pub stored-length : (i : ℕ) → i ≤ length ys → length (stored i) ≡ length ys
   stored-length i l = length-append (take i t) (drop i ys) ∙ omega (arith, length-take-le i t (omega arith), length-drop i ys)
 
-  stored-suc : (i : ℕ) → i < length ys → set (stored i) i (getD t i none) ≡ stored (i + 1)
+  pub stored-suc : (i : ℕ) → i < length ys → set (stored i) i (getD t i none) ≡ stored (i + 1)
   stored-suc i l =
       ap (λ (us : List D). set (take i t ++ us) i (getD t i none)) (drop-cons ys i none l) ∙ set-at (take i t) (getD ys i none) (drop (suc i) ys) (getD t i none) i (length-take-le i t (omega arith))
       ∙ sym (append-snoc (take i t) (getD t i none) (drop (suc i) ys)) ∙ ap (λ (us : List D). us ++ drop (suc i) ys) (sym (take-suc t i none (omega arith))) ∙ ap stored (sym (add-one i))
 
-  stored-all : (i : ℕ) → length ys ≤ i → stored i ≡ t
+  pub stored-all : (i : ℕ) → length ys ≤ i → stored i ≡ t
   stored-all i g = ap (λ (us : List D). take i t ++ us) (drop-of-length-le ys g) ∙ append-nil (take i t) ∙ take-all i t (omega arith)
 
 module _ (S : Struct) (none : Of (struct S)) (N : ℕ) where

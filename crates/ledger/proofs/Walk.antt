@@ -1,4 +1,5 @@
 pub mod Body
+pub mod Branch
 pub mod Calls
 pub mod Function
 pub mod Locals
@@ -6,3 +7,4 @@ pub mod Loop
 pub mod Memory
 pub mod Terms
 pub mod Values
+pub mod Parts

@@ -4,3 +4,5 @@ pub mod After
 pub mod Ready
 pub mod Check
 pub mod Leaves
+pub mod Inner
+pub mod Answering

@@ -33,7 +33,7 @@ pub struct Stepped {
 }
 
 // Whether the step is done, and of that kind.
-fn is_done(v: Verdict, f: Fields, kind: u8) -> bool
+pub fn is_done(v: Verdict, f: Fields, kind: u8) -> bool
     ensures { λ r. ⌜ r ≡ did v f kind ⌝ }
 {
     both(v.reason == 0, f.kind == kind)
@@ -295,6 +295,19 @@ pub fn finish(m: Month, f: Fields, v: Verdict) -> Stepped
         answer: Answer {
             reason: v.reason,
             number,
+        },
+    }
+}
+
+// A record that may not be done on this book: reason 1, and the month as it was.
+pub fn unusable(m: Month) -> Stepped
+    ensures { λ r. ⌜ r ≡ record { month = m; answer = record { reason = 1; number = 0 } } ⌝ }
+{
+    Stepped {
+        month: m,
+        answer: Answer {
+            reason: 1,
+            number: 0,
         },
     }
 }

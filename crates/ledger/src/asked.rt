@@ -37,3 +37,14 @@ pub fn asked(history: &[u8], at: usize) -> Fields
         Decoded::Refused => nothing(),
     }
 }
+
+// What one record asks, of whatever length it is.
+pub fn asked_by(bytes: &[u8]) -> Fields
+    ensures { λ r. ⌜ r ≡ askedOf (decodeOf (now (bytes .entry))) ⌝ }
+{
+    let said = record::decode(bytes);
+    match said {
+        Decoded::Step(step) => record::fields_of(step),
+        Decoded::Refused => nothing(),
+    }
+}

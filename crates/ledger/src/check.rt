@@ -1,9 +1,10 @@
 // Whether a lent book is sound, and the totals of its ledger: one pass over each table.
 ghost use mathlib.Core.Path.{_≡_};
-ghost use mathlib.Core.Bool.{Bool, _&&_};
+ghost use mathlib.Core.Bool.{Bool, cond, _&&_};
+ghost use lib.Dec.{eqb};
 ghost use Prim.Native.Nat.{_+_, _≤_};
 ghost use lib.ListN.{length};
-ghost use Rattle.book.specs.Book.{levelPlaces};
+ghost use Rattle.book.specs.Book.{levelPlaces, mostGiven, participants};
 ghost use Rattle.book.specs.Sound.{sound};
 ghost use Rattle.ledger.specs.Check.{bookFrom, accountsFit, mostOn, rowFits, levelsFit, recordsFit, heldFits, addedTo, addedIn, CappedTotals};
 use crate::after::accepted_in;
@@ -164,4 +165,18 @@ pub fn is_usable(
     } else {
         false
     }
+}
+
+// Whether the tables have their lengths.
+pub fn has_right_lengths(m: Month, accounts: usize, levels: usize, ledger: usize) -> bool
+    ensures { λ r. ⌜ r ≡ (eqb (length (m .windows)) 4 && (eqb accounts participants && (eqb levels levelPlaces && eqb ledger mostGiven))) ⌝ }
+{
+    both(accounts == 32, both(levels == 3968, ledger == 256))
+}
+
+// How many rows of a table to read: none where a table has a wrong length.
+pub fn rows(right: bool, all: usize) -> usize
+    ensures { λ r. ⌜ r ≡ cond right all 0 ⌝ }
+{
+    if right { all } else { 0 }
 }

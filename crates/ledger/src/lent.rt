@@ -1,14 +1,21 @@
 // The ledger and the accounts, lent as runs of records: thin functions that read and rewrite them.
 ghost use mathlib.Core.Path.{_≡_};
-ghost use Prim.Native.Nat.{ℕ, _+_, _-_, _≤_, _<_};
+ghost use Prim.Native.Nat.{_-_, _≤_, _<_};
 ghost use mathlib.Core.List.{_++_};
-ghost use lib.ListN.{length, getD, set, take, drop, replicate};
+ghost use lib.ListN.{length, getD, set, take, replicate};
 ghost use Rattle.book.specs.Book.{noAccount, noAllocation};
 ghost use Rattle.ledger.specs.Judge.{seenIn};
-ghost use Rattle.ledger.specs.After.{requirementIn, marginSetIn, accountAfter};
+ghost use mathlib.Core.Bool.{Bool};
+ghost use Rattle.ledger.specs.After.{did, requirementIn, marginSetIn, accountAfter};
+ghost use Rattle.ledger.specs.Inner.{RecutTotals};
+ghost use Rattle.ledger.specs.Leaves.{recutAfter};
+ghost use Rattle.ledger.specs.Ready.{CutFits};
+use crate::after::is_done;
 use crate::after::with_margin;
 use crate::after::with_requirement;
 use crate::after::with_roles;
+use crate::check::total_up;
+use crate::cut::cut_to;
 use crate::judge::Verdict;
 use crate::seen::Seen;
 use crate::seen::judged_by;
@@ -18,11 +25,9 @@ use crate::seen::slot_of;
 use book::Account;
 use book::Allocation;
 use book::Month;
-use book::Status;
+use book::fresh_accounts;
+use book::fresh_ledger;
 use record::Fields;
-use units::Cents;
-use units::Net;
-use units::Thousandths;
 
 // The record at a place.
 pub fn get(ledger: &[Allocation], i: usize) -> Allocation
@@ -98,7 +103,7 @@ pub fn load(ledger: &[Allocation], n: usize) -> [Allocation; 256]
     requires { ⌜ (n ≤ length (now ledger)) × (n ≤ 256) ⌝ }
     ensures { λ r. ⌜ r ≡ take n (now (ledger .entry)) ++ replicate (256 - n) noAllocation ⌝ }
 {
-    let mut t = no_allocations();
+    let mut t = fresh_ledger();
     let mut i: usize = 0;
     while i < n {
         t = with_record(t, i, ledger[i]);
@@ -112,7 +117,7 @@ pub fn load_accounts(accounts: &[Account], n: usize) -> [Account; 32]
     requires { ⌜ (n ≤ length (now accounts)) × (n ≤ 32) ⌝ }
     ensures { λ r. ⌜ r ≡ take n (now (accounts .entry)) ++ replicate (32 - n) noAccount ⌝ }
 {
-    let mut t = no_accounts();
+    let mut t = fresh_accounts();
     let mut i: usize = 0;
     while i < n {
         t = with_account(t, i, accounts[i]);
@@ -131,32 +136,6 @@ pub fn store(ledger: &mut [Allocation], t: [Allocation; 256])
         ledger[i] = record_at(t, i);
         i += 1;
     }
-}
-
-// 256 empty records.
-fn no_allocations() -> [Allocation; 256]
-    ensures { λ r. ⌜ r ≡ replicate 256 noAllocation ⌝ }
-{
-    let l = Allocation {
-        generator: 0,
-        customer: 0,
-        quantity: Thousandths(0),
-        status: Status::Empty,
-    };
-    [l; 256]
-}
-
-// 32 accounts of nobody.
-fn no_accounts() -> [Account; 32]
-    ensures { λ r. ⌜ r ≡ replicate 32 noAccount ⌝ }
-{
-    let a = Account {
-        roles: 0,
-        requirement: Thousandths(0),
-        figure: Cents(0),
-        net: Net(0),
-    };
-    [a; 32]
 }
 
 // The array with one record more.
@@ -183,4 +162,30 @@ fn record_at(t: [Allocation; 256], i: usize) -> Allocation
     ensures { λ r. ⌜ r ≡ getD t i noAllocation ⌝ }
 {
     t[i]
+}
+
+// The table of totals, written anew.
+fn replace(totals: &mut [u32], new: [u32; 96])
+    requires { ⌜ length (now totals) ≡ 96 ⌝ }
+    ensures { λ _. ⌜ now (totals .exit) ≡ new ⌝ }
+{
+    let mut i: usize = 0;
+    while i < 96 {
+        totals[i] = new[i];
+        i += 1;
+    }
+}
+
+// The operator's cut, where the step is a done one: the records at their new quantities, and the
+// totals worked out anew.
+pub fn recut(ledger: &mut [Allocation], totals: &mut [u32], f: Fields, v: Verdict)
+    requires { ⌜ (length (now ledger) ≡ 256) × ((length (now totals) ≡ 96) × (did v f 14 ≡ Bool.true → CutFits (f .a) (v .credits .0) (now ledger))) ⌝ }
+    ensures { λ _. ⌜ (now (ledger .exit) ≡ recutAfter f v (now (ledger .entry))) × RecutTotals f v (now (totals .entry)) (now (totals .exit)) (now (ledger .exit)) ⌝ }
+{
+    if is_done(v, f, 14) {
+        let t = load(&*ledger, 256);
+        let u = cut_to(f.a, v.credits, t);
+        store(&mut *ledger, u);
+        replace(&mut *totals, total_up(u));
+    }
 }

@@ -1,6 +1,6 @@
 -- `files::shown` meets its contract: each answer is `recordAt` by the tests that led to it. A place of a whole record ends inside the file, so its
 -- part is in range. Assumes nothing.
-use mathlib.Core.Path.{_≡_, ap, sym, _∙_}
+use mathlib.Core.Path.{_≡_, ap, _∙_}
 use Prim.Native.Nat.{ℕ, _+_, _-_, _*_}
 use native.Mathlib.Omega.{arith}
 use borrow.Author.Needs.{needs}

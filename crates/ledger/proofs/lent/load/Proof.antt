@@ -9,9 +9,9 @@ use Rattle.ledger.proofs.Walk.Body.{frames}
 use Rattle.ledger.proofs.lent.with_record.Symbol as with-record-def
 use Rattle.ledger.proofs.lent.with_record.Symbol.{name as #ledger·lent·with-record}
 use Rattle.ledger.proofs.lent.with_record.Met as with-record-thm
-use Rattle.ledger.proofs.lent.no_allocations.Symbol as no-allocations-def
-use Rattle.ledger.proofs.lent.no_allocations.Symbol.{name as #ledger·lent·no-allocations}
-use Rattle.ledger.proofs.lent.no_allocations.Met as no-allocations-thm
+use Rattle.book.proofs.fresh_ledger.Symbol as fresh-ledger-def
+use Rattle.book.proofs.fresh_ledger.Symbol.{name as #book·fresh-ledger}
+use Rattle.book.proofs.fresh_ledger.Met as fresh-ledger-thm
 use Rattle.ledger.proofs.lent.load.Key.{name as #ledger·lent·load}
 use Rattle.ledger.proofs.lent.load.Statement as stated
 use Rattle.ledger.proofs.lent.load.Code as code
@@ -20,6 +20,6 @@ pub load-spec : {M : Type 1} → stated.statement M
 unfolding code.routine tablesOf
 load-spec 𝓤 H 𝓜 𝓖 𝓡 =
     entered 𝓤 H _ (tables 𝓤 H 𝓜 𝓡 code.env .C) (tables 𝓤 H 𝓜 𝓡 code.env .Λ) #ledger·lent·load code.function (code.unfolded 𝓤 H 𝓜 𝓡)
-    (load-meets allocation noAllocation 256 #ledger·lent·no-allocations #ledger·lent·with-record tt 𝓤 H (𝓖 .A) (givenOf 𝓤 H 𝓜 𝓖) (tablesOf 𝓤 H 𝓜 (tables 𝓤 H 𝓜 𝓡 code.env)) (frames 𝓤 H 𝓜 𝓖 𝓡 code.env)
+    (load-meets allocation noAllocation 256 #book·fresh-ledger #ledger·lent·with-record tt 𝓤 H (𝓖 .A) (givenOf 𝓤 H 𝓜 𝓖) (tablesOf 𝓤 H 𝓜 (tables 𝓤 H 𝓜 𝓡 code.env)) (frames 𝓤 H 𝓜 𝓖 𝓡 code.env)
     (cited 𝓤 H _ 𝓜 𝓡 code.env #ledger·lent·with-record with-record-def.routine code.calls-ledger·lent·with-record (with-record-thm.met 𝓤 H 𝓜 𝓖 𝓡))
-    (cited 𝓤 H _ 𝓜 𝓡 code.env #ledger·lent·no-allocations no-allocations-def.routine code.calls-ledger·lent·no-allocations (no-allocations-thm.met 𝓤 H 𝓜 𝓖 𝓡)))
+    (cited 𝓤 H _ 𝓜 𝓡 code.env #book·fresh-ledger fresh-ledger-def.routine code.calls-book·fresh-ledger (fresh-ledger-thm.met 𝓤 H 𝓜 𝓖 𝓡)))

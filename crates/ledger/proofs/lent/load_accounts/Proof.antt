@@ -9,9 +9,9 @@ use Rattle.ledger.proofs.Walk.Body.{frames}
 use Rattle.ledger.proofs.lent.with_account.Symbol as with-account-def
 use Rattle.ledger.proofs.lent.with_account.Symbol.{name as #ledger·lent·with-account}
 use Rattle.ledger.proofs.lent.with_account.Met as with-account-thm
-use Rattle.ledger.proofs.lent.no_accounts.Symbol as no-accounts-def
-use Rattle.ledger.proofs.lent.no_accounts.Symbol.{name as #ledger·lent·no-accounts}
-use Rattle.ledger.proofs.lent.no_accounts.Met as no-accounts-thm
+use Rattle.book.proofs.fresh_accounts.Symbol as fresh-accounts-def
+use Rattle.book.proofs.fresh_accounts.Symbol.{name as #book·fresh-accounts}
+use Rattle.book.proofs.fresh_accounts.Met as fresh-accounts-thm
 use Rattle.ledger.proofs.lent.load_accounts.Key.{name as #ledger·lent·load-accounts}
 use Rattle.ledger.proofs.lent.load_accounts.Statement as stated
 use Rattle.ledger.proofs.lent.load_accounts.Code as code
@@ -20,6 +20,6 @@ pub load-accounts-spec : {M : Type 1} → stated.statement M
 unfolding code.routine tablesOf
 load-accounts-spec 𝓤 H 𝓜 𝓖 𝓡 =
     entered 𝓤 H _ (tables 𝓤 H 𝓜 𝓡 code.env .C) (tables 𝓤 H 𝓜 𝓡 code.env .Λ) #ledger·lent·load-accounts code.function (code.unfolded 𝓤 H 𝓜 𝓡)
-    (load-meets account noAccount 32 #ledger·lent·no-accounts #ledger·lent·with-account tt 𝓤 H (𝓖 .A) (givenOf 𝓤 H 𝓜 𝓖) (tablesOf 𝓤 H 𝓜 (tables 𝓤 H 𝓜 𝓡 code.env)) (frames 𝓤 H 𝓜 𝓖 𝓡 code.env)
+    (load-meets account noAccount 32 #book·fresh-accounts #ledger·lent·with-account tt 𝓤 H (𝓖 .A) (givenOf 𝓤 H 𝓜 𝓖) (tablesOf 𝓤 H 𝓜 (tables 𝓤 H 𝓜 𝓡 code.env)) (frames 𝓤 H 𝓜 𝓖 𝓡 code.env)
     (cited 𝓤 H _ 𝓜 𝓡 code.env #ledger·lent·with-account with-account-def.routine code.calls-ledger·lent·with-account (with-account-thm.met 𝓤 H 𝓜 𝓖 𝓡))
-    (cited 𝓤 H _ 𝓜 𝓡 code.env #ledger·lent·no-accounts no-accounts-def.routine code.calls-ledger·lent·no-accounts (no-accounts-thm.met 𝓤 H 𝓜 𝓖 𝓡)))
+    (cited 𝓤 H _ 𝓜 𝓡 code.env #book·fresh-accounts fresh-accounts-def.routine code.calls-book·fresh-accounts (fresh-accounts-thm.met 𝓤 H 𝓜 𝓖 𝓡)))
