@@ -51,7 +51,7 @@ module _ {b : Book} (o : Opened b) where
       by (no l) = absurd (false≢true (ap (λ a. isAccepted (a .status)) (sym (o .later i (omega arith))) ∙ h))
 
 -- ---- credits
-days-most : (d most : ℕ) (f : ℕ → ℕ) → ((k : ℕ) → f k ≤ most) → overDays d f ≤ d * most
+pub days-most : (d most : ℕ) (f : ℕ → ℕ) → ((k : ℕ) → f k ≤ most) → overDays d f ≤ d * most
 unfolding overDays
 days-most zero most f h = omega arith
 days-most (suc d) most f h = omega (arith, days-most d most f h, h (suc d))

@@ -23,7 +23,8 @@ use Rattle.book.proofs.Bounds.{role-below, generator-below, customer-below}
 use Rattle.book.proofs.NoReason.{pass}
 use Rattle.ledger.specs.declared.seen.Seen.{Seen}
 use Rattle.ledger.specs.declared.totals.Totals.{Totals}
-use Rattle.ledger.specs.Judge.{judgedBy, seenIn, totalsAt, tradeableIn, blockedIn, marginIn, lateOf, gateIn, creditsIn, verdictIn}
+use Rattle.credits.specs.Credits.{tradeableIn}
+use Rattle.ledger.specs.Judge.{judgedBy, seenIn, totalsAt, blockedIn, marginIn, lateOf, gateIn, creditsIn, verdictIn}
 use Rattle.ledger.specs.Ready.{Totalled}
 use Rattle.ledger.proofs.ByKind.{earlyReasonOf, lateReasonOf, when-line, lines, either-way, given-range, record-is, gate-is, reason-split}
 

@@ -19,7 +19,8 @@ use Rattle.book.proofs.Tests.{parts}
 use Rattle.ledger.specs.declared.seen.Seen.{Seen}
 use Rattle.ledger.specs.declared.totals.Totals.{Totals}
 use Rattle.ledger.specs.Gate.{when, first, rolesOf, gateOf, windowReason, creditReason, submitReason, amendReason}
-use Rattle.ledger.specs.Judge.{totalsAt, tradeableIn, lateOf, gateIn, verdictIn}
+use Rattle.credits.specs.Credits.{tradeableIn}
+use Rattle.ledger.specs.Judge.{totalsAt, lateOf, gateIn, verdictIn}
 use Rattle.ledger.specs.Ready.{SumsFit, CreditFits, LateFits, CreditDone, Judgeable, MonthMove}
 
 -- ---- a chain of reasons

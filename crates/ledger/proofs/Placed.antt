@@ -21,7 +21,8 @@ use Rattle.book.specs.Run.{usable, decodedBook, decodedAnswer}
 use Rattle.book.proofs.Tests.{and-left, neither}
 use Rattle.book.proofs.Sound.{Opened, opened-of}
 use Rattle.book.proofs.NoReason.{NoReason, no-reason}
-use Rattle.ledger.specs.Judge.{verdictIn, tradeableIn}
+use Rattle.credits.specs.Credits.{tradeableIn}
+use Rattle.ledger.specs.Judge.{verdictIn}
 use Rattle.ledger.specs.Ready.{Totalled}
 use Rattle.ledger.specs.After.{answerIn}
 use Rattle.ledger.specs.Leaves.{askedOf, verdictOn, leaves}

@@ -2,7 +2,7 @@
 -- at its place, the table of levels, and the table of totals. Reasons 12 to 15 are worked out only where none of 1 to 11 applies. Assumes nothing.
 use mathlib.Core.Bool.{Bool, cond, _&&_, _||_}
 use mathlib.Core.List.{List}
-use Prim.Native.Nat.{ℕ, _+_, _-_, _/_}
+use Prim.Native.Nat.{ℕ, _+_, _-_}
 use lib.Dec.{eqb, leb, ltb}
 use lib.IntN.{ℤ, pos, _+ℤ_, _-ℤ_, _*ℤ_}
 use lib.Signed.{ltZ}
@@ -13,8 +13,9 @@ use Rattle.book.specs.declared.Month.{Month}
 use Rattle.book.specs.declared.Account.{Account}
 use Rattle.book.specs.declared.Allocation.{Allocation}
 use Rattle.book.specs.Book.{noAccount, noAllocation, participants, mostGiven, mostLevel}
-use Rattle.book.specs.Words.{levelPlace, overDays, exposedDays}
+use Rattle.book.specs.Words.{levelPlace, exposedDays}
 use Rattle.book.specs.Reasons.{some, change, from-to}
+use Rattle.credits.specs.Credits.{tradeableIn}
 use Rattle.ledger.specs.declared.seen.Seen.{Seen}
 use Rattle.ledger.specs.declared.totals.Totals.{Totals}
 use Rattle.ledger.specs.declared.judge.Verdict.{Verdict}
@@ -51,14 +52,6 @@ totalsAt ts p = record {
 }
 
 -- ---- levels
--- the levels of a kind summed over days 1 to d
-abbrev pub creditDays : List ℕ → ℕ → ℕ → ℕ → ℕ
-creditDays lv d p kind = overDays d (λ day. getD lv (levelPlace p kind day) 0)
-
--- tradeable credits
-unfoldable pub tradeableIn : List ℕ → ℕ → ℕ → ℕ
-tradeableIn lv d p = (creditDays lv d p 1 + creditDays lv d p 2) / d
-
 -- a level that a CREATE of q would pass, or that a TERMINATE of q takes more than
 abbrev pub blocks : Bool → ℕ → ℕ → Bool
 blocks creates q l = cond creates (ltb mostLevel (l + q)) (ltb l q)

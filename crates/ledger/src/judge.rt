@@ -3,12 +3,12 @@ ghost use mathlib.Core.Path.{_≡_};
 ghost use mathlib.Core.Bool.{cond};
 ghost use Prim.Native.Nat.{_-_, _≤_};
 ghost use Rattle.book.specs.Book.{mostDays, mostQuantity};
-ghost use Rattle.ledger.specs.Judge.{lateOf, submitLate, acceptLate, agreeLate, amendLate, operatorLate, creditLate, asksCredits, tradeableIn, verdictIn};
+ghost use Rattle.credits.specs.Credits.{tradeableIn};
+ghost use Rattle.ledger.specs.Judge.{lateOf, submitLate, acceptLate, agreeLate, amendLate, operatorLate, creditLate, asksCredits, verdictIn};
 ghost use Rattle.ledger.specs.Ready.{Judgeable, SumsFit, MonthFits, AccountFits, LevelsFit, CreditFits, LateFits};
 use crate::gate::gate;
 use crate::levels::any_blocked;
 use crate::levels::level_place;
-use crate::levels::tradeable;
 use crate::margin::change_of;
 use crate::margin::is_short;
 use crate::seen::Seen;
@@ -20,6 +20,7 @@ use crate::tests::roles_of;
 use crate::totals::Totals;
 use crate::totals::totals_of;
 use book::Month;
+use credits::tradeable;
 use record::Fields;
 use units::Thousandths;
 
@@ -142,7 +143,7 @@ fn credits_of(levels: &[u32], days: u8, kind: u8, participant: u8) -> Thousandth
     ensures { λ r. ⌜ r .0 ≡ cond (asksCredits kind) (tradeableIn (now (levels .entry)) days participant) 0 ⌝ }
 {
     if asks_credits(kind) {
-        return tradeable(levels, days, participant);
+        return Thousandths(tradeable(levels, days, participant) as u32);
     }
     Thousandths(0)
 }

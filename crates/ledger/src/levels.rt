@@ -1,19 +1,16 @@
-// The table of levels: sums over days, what is in a credit step's way, and what the step does to them.
+// The table of levels: what is in a credit step's way, and what the step does to them.
 ghost use mathlib.Core.Path.{_≡_};
-ghost use Prim.Native.Nat.{_+_, _-_, _*_, _≤_, _<_};
-ghost use lib.ListN.{getD};
-ghost use Rattle.book.specs.Book.{participants, mostDays, mostLevel, mostQuantity, levelPlaces};
-ghost use Rattle.book.specs.Words.{levelPlace, overDays};
+ghost use Prim.Native.Nat.{_+_, _≤_, _<_};
+ghost use Rattle.book.specs.Book.{participants, mostDays, mostLevel, levelPlaces};
+ghost use Rattle.book.specs.Words.{levelPlace};
 ghost use Rattle.book.specs.Steps.{changed};
-ghost use Rattle.ledger.specs.Judge.{tradeableIn, blocks, blockedIn};
+ghost use Rattle.ledger.specs.Judge.{blocks, blockedIn};
 ghost use Rattle.ledger.specs.After.{movedBy, levelsAfter};
 ghost use Rattle.ledger.specs.Ready.{LevelsFit, CreditDone};
 use crate::judge::Verdict;
-use crate::tests::PARTICIPANTS;
 use crate::tests::either;
 use book::Month;
 use record::Fields;
-use units::Thousandths;
 
 // The most that a level can be.
 pub const MOST_LEVEL: u32 = 10_000_000;
@@ -24,36 +21,6 @@ pub fn level_place(participant: u8, kind: u8, day: u8) -> usize
     ensures { λ r. ⌜ (r ≡ levelPlace participant kind day) × (r + 32 ≤ levelPlaces + day) ⌝ }
 {
     participant as usize * 124 + (kind as usize - 1) * 31 + (day as usize - 1)
-}
-
-// The levels of so many days, from a place on.
-fn over_days(levels: &[u32], from: usize, days: usize) -> u64
-    requires { ⌜ LevelsFit (now levels) × ((from + days ≤ levelPlaces) × (days ≤ mostDays)) ⌝ }
-    ensures { λ r. ⌜ (r ≡ overDays days (λ day. getD (now (levels .entry)) (from + (day - 1)) 0)) × (r ≤ days * mostLevel) ⌝ }
-{
-    let mut sum: u64 = 0;
-    let mut i: usize = 0;
-    while i < days {
-        sum += levels[from + i] as u64;
-        i += 1;
-    }
-    sum
-}
-
-// Tradeable credits of a participant; 0 past the last one, and where the month has no day.
-pub fn tradeable(levels: &[u32], days: u8, participant: u8) -> Thousandths
-    requires { ⌜ LevelsFit (now levels) × (days ≤ mostDays) ⌝ }
-    ensures { λ r. ⌜ (r .0 ≡ tradeableIn (now (levels .entry)) days participant) × (r .0 ≤ mostQuantity) ⌝ }
-{
-    if PARTICIPANTS <= participant {
-        return Thousandths(0);
-    }
-    if days == 0 {
-        return Thousandths(0);
-    }
-    let from = participant as usize * 124;
-    let sum = over_days(levels, from, days as usize) + over_days(levels, from + 31, days as usize);
-    Thousandths((sum / days as u64) as u32)
 }
 
 // A level that a CREATE of q would pass, or that a TERMINATE of q takes more than.
