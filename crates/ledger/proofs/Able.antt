@@ -23,14 +23,14 @@ use Rattle.book.proofs.Bounds.{generator-below, customer-below}
 use Rattle.ledger.specs.declared.judge.Verdict.{Verdict}
 use Rattle.ledger.specs.Gate.{rolesOf}
 use Rattle.ledger.specs.Judge.{placeOf, seenIn, totalsAt, gateIn}
-use Rattle.ledger.specs.After.{did, allocationAfter}
+use Rattle.ledger.specs.After.{did, allocationAfter, totalsAfter}
 use Rattle.ledger.specs.Ready.{Totalled, TotalsMove, CutFits}
 use Rattle.ledger.specs.Leaves.{verdictOn}
 use Rattle.ledger.specs.Inner.{oldOf, newOf, putOf, Able}
 use Rattle.ledger.proofs.ByKind.{either-way}
 use Rattle.ledger.proofs.Fitting.{by-kind, month-fits, levels-fit, quantity-low, totals-fit, judgeable}
 use Rattle.ledger.proofs.Passed.{roles-below, submit-registered, submit-quantity, submit-number, amend-quantity, gate-passed, verdict-month-move, verdict-credit-done, verdict-excess}
-use Rattle.ledger.proofs.Totalled.{Replaces, rewritten, filled, totals-move}
+use Rattle.ledger.proofs.Totalled.{Replaces, rewritten, filled, totalled-after, totals-move}
 
 -- what holds of both choices holds of the chosen one
 pick : {A : Type 0} (P : A → Type 0) (t : Bool) {x y : A} → (t ≡ true → P x) → P y → P (cond t x y)
@@ -116,11 +116,6 @@ module _ (b : Book) (u : usable b ≡ true) (ts : List ℕ) (h : Totalled ts (b 
   passed : v .reason ≡ 0 → gateIn (b .month) (seenIn (b .month) (b .accounts) (b .ledger) f) f ≡ 0
   passed = gate-passed (b .month) (b .levels) ts (seenIn (b .month) (b .accounts) (b .ledger) f) f
 
-  -- a new record in the place of the old one
-  moved : Replaces (oldOf b f) (newOf b ts f) → Parties (newOf b ts f) → newOf b ts f .quantity .0 ≤ mostQuantity → TotalsMove ts (oldOf b f) (newOf b ts f)
-  moved r p q =
-      totals-move ts (b .ledger) (placeOf (b .month) f) (oldOf b f) (newOf b ts f) h (omega (arith, place-below, ledger-long b u)) refl r (p .generator) (p .customer) (totals-fit b ts u h) q
-
   -- SUBMIT fills the next record
   submitted : did v f 8 ≡ true → Replaces (oldOf b f) (newOf b ts f) × Parties (newOf b ts f)
   unfolding allocationAfter
@@ -133,17 +128,27 @@ module _ (b : Book) (u : usable b ≡ true) (ts : List ℕ) (h : Totalled ts (b 
       let next : placeOf (b .month) f ≡ b .month .given = rw (d .1, lt-ltb (b .month .given) mostGiven left) in
       (filled (ap (λ i. getD (b .ledger) i noAllocation) next ∙ next-empty b u), rw e (record { generator = roles-below (f .a) (seen .first) (known .0); customer = roles-below (f .b) (seen .second) (known .1) }))
 
+  -- every other step writes a record of the same parties
+  replaces : Replaces (oldOf b f) (newOf b ts f) × Parties (newOf b ts f)
+  replaces =
+      either-way (did v f 8) submitted
+      (λ e. (same-parties f v (oldOf b f) e, parties-after f v (oldOf b f) e (parties b u (placeOf (b .month) f))))
+
+  inside : placeOf (b .month) f < length (b .ledger)
+  inside = omega (arith, place-below, ledger-long b u)
+
   moves : TotalsMove ts (oldOf b f) (newOf b ts f)
   moves =
-      let old = parties b u (placeOf (b .month) f) in
       let low =
       low-quantity f v (oldOf b f)
       (λ e. let d = is-done 8 e in submit-quantity (b .month) _ _ _ f (passed (d .0)) (d .1) .1)
       (λ e. let d = is-done 13 e in amend-quantity (b .month) _ _ _ f (passed (d .0)) (d .1))
       (quantity-low b u (placeOf (b .month) f)) in
-      either-way (did v f 8)
-      (λ e. let s = submitted e in moved (s .0) (s .1) low)
-      (λ e. moved (same-parties f v (oldOf b f) e) (parties-after f v (oldOf b f) e old) low)
+      totals-move ts (b .ledger) (placeOf (b .month) f) (oldOf b f) (newOf b ts f) h inside refl (replaces .0) (replaces .1 .generator) (replaces .1 .customer) (totals-fit b ts u h) low
+
+  -- the totals that it leaves are those of the ledger with its record
+  pub moves-totals : Totalled (totalsAfter (oldOf b f) (newOf b ts f) ts) (putOf b ts f)
+  moves-totals = totalled-after ts (b .ledger) (placeOf (b .month) f) (oldOf b f) (newOf b ts f) h inside refl (replaces .0) (replaces .1 .generator) (replaces .1 .customer)
 
   -- a cut finds the ledger as it was
   put-is : v .reason ≡ 0 → f .kind ≡ 14 → putOf b ts f ≡ b .ledger

@@ -3,7 +3,7 @@
 use mathlib.Core.Path.{_≡_}
 use mathlib.Core.Bool.{true, cond, _&&_}
 use mathlib.Core.Option.{some, none}
-use Prim.Native.Nat.{_<_}
+use Prim.Native.Nat.{_≤_, _<_}
 use mathlib.Core.List.{[], _∷_}
 use lib.Dec.{eqb}
 use lib.ListN.{length, getD, set}
@@ -11,6 +11,7 @@ use mir.Syntax.{w8, w32, w64}
 use Rattle.record.specs.Record.{decodeOf}
 use Rattle.book.specs.Book.{noAccount, noAllocation, participants, levelPlaces, mostGiven}
 use Rattle.book.specs.Cut.{cut}
+use Rattle.book.specs.Run.{usable, recordsOf}
 use Rattle.book.specs.Sound.{sound}
 use Rattle.ledger.specs.Judge.{slot, placeOf, judgedBy, seenIn, verdictIn}
 use Rattle.ledger.specs.After.{did, registeredIn, requirementIn, marginSetIn, accountAfter, allocationAfter, monthAfter, levelsAfter, totalsAfter, answerIn}
@@ -18,10 +19,11 @@ use Rattle.ledger.specs.Check.{bookFrom, CappedTotals}
 use Rattle.ledger.specs.Inner.{Able, RecutTotals, Steps}
 use Rattle.ledger.specs.Answering.{Answers}
 use Rattle.ledger.specs.Leaves.{askedOf, recutAfter}
-use Rattle.ledger.specs.Ready.{LevelsFit, SumsFit, Judgeable, CreditDone, TotalsMove, MonthMove, CutFits}
+use Rattle.ledger.specs.Running.{wordOf, Does}
+use Rattle.ledger.specs.Ready.{LevelsFit, Totalled, SumsFit, Judgeable, CreditDone, TotalsMove, MonthMove, CutFits}
 use Rattle.ledger.proofs.Element.{get-terms, put-terms}
 use Rattle.ledger.proofs.Loader.{load-terms}
-use Rattle.ledger.proofs.Records.{thousandths, account, allocation, fields, month, seen, stepped, verdict}
+use Rattle.ledger.proofs.Records.{thousandths, account, allocation, answer, fields, month, seen, stepped, verdict}
 use Rattle.ledger.proofs.Setter.{with-terms, set-terms}
 use Rattle.ledger.proofs.Storer.{store-terms}
 use Rattle.ledger.proofs.Walk.Values.{number, boolean, nothing, struct, array}
@@ -245,4 +247,29 @@ Step = record {
   result = struct stepped;
   requires = none;
   ensures = λ a r ws. Answers (bookFrom (a .0) (a .1 .0) (a .1 .1 .0) (a .1 .1 .1 .0)) (a .1 .1 .1 .1 .0) r (ws .1 .0) (ws .1 .1 .0) (ws .1 .1 .1 .0);
+}
+
+-- ---- a run over a history
+abbrev pub Asked : Terms
+Asked = record {
+  params = shared (number w8) ∷ plain (number w64) ∷ [];
+  result = struct fields;
+  requires = none;
+  ensures = λ a r ws. r ≡ askedOf (decodeOf (recordsOf (a .0) (a .1 .0)));
+}
+
+abbrev pub WriteAnswer : Terms
+WriteAnswer = record {
+  params = mutable (number w64) ∷ plain (number w64) ∷ plain (struct answer) ∷ [];
+  result = nothing;
+  requires = some (λ a. a .1 .0 < length (a .0));
+  ensures = λ a r ws. ws .0 ≡ set (a .0) (a .1 .0) (wordOf (a .1 .1 .0 .reason) (a .1 .1 .0 .number));
+}
+
+abbrev pub DoRecords : Terms
+DoRecords = record {
+  params = plain (struct month) ∷ mutable (struct account) ∷ mutable (number w32) ∷ mutable (struct allocation) ∷ mutable (number w32) ∷ shared (number w8) ∷ mutable (number w64) ∷ plain (number w64) ∷ [];
+  result = struct month;
+  requires = some (λ a. (usable (bookFrom (a .0) (a .1 .0) (a .1 .1 .0) (a .1 .1 .1 .0)) ≡ true) × (Totalled (a .1 .1 .1 .1 .0) (a .1 .1 .1 .0) × (a .1 .1 .1 .1 .1 .1 .1 .0 ≤ length (a .1 .1 .1 .1 .1 .1 .0))));
+  ensures = λ a r ws. Does (bookFrom (a .0) (a .1 .0) (a .1 .1 .0) (a .1 .1 .1 .0)) (a .1 .1 .1 .1 .1 .0) (a .1 .1 .1 .1 .1 .1 .0) (a .1 .1 .1 .1 .1 .1 .1 .0) r (ws .1 .0) (ws .1 .1 .0) (ws .1 .1 .1 .0) (ws .1 .1 .1 .1 .1 .1 .0);
 }

@@ -9,6 +9,7 @@ pub mod Leaves
 pub mod Placed
 pub mod Able
 pub mod Stepping
+pub mod Running
 pub mod Turns
 pub mod Cutting
 pub mod Tally

@@ -10,6 +10,8 @@ use Rattle.book.proofs.Allocation as Allocation
 use Rattle.book.proofs.Allocation.Laws as AllocationLaws
 use Rattle.book.proofs.Month as Month
 use Rattle.book.proofs.Month.Laws as MonthLaws
+use Rattle.ledger.proofs.after.Answer as Answer
+use Rattle.ledger.proofs.after.Answer.Laws as AnswerLaws
 use Rattle.ledger.proofs.after.Stepped as Stepped
 use Rattle.ledger.proofs.after.Stepped.Laws as SteppedLaws
 use Rattle.ledger.proofs.judge.Verdict as Verdict
@@ -41,3 +43,6 @@ seen = record { type = Seen.the-type; laws = SeenLaws.the-laws; plain = SeenLaws
 
 abbrev pub stepped : Struct
 stepped = record { type = Stepped.the-type; laws = SteppedLaws.the-laws; plain = SteppedLaws.the-plain }
+
+abbrev pub answer : Struct
+answer = record { type = Answer.the-type; laws = AnswerLaws.the-laws; plain = AnswerLaws.the-plain }

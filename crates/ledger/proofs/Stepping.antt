@@ -21,6 +21,7 @@ use Rattle.book.proofs.Runs.{left, answered}
 use Rattle.ledger.specs.declared.after.Stepped.{Stepped}
 use Rattle.ledger.specs.Check.{bookFrom, CappedTotals}
 use Rattle.ledger.specs.Leaves.{askedOf}
+use Rattle.ledger.specs.Ready.{Totalled}
 use Rattle.ledger.specs.Inner.{Able, Steps}
 use Rattle.ledger.specs.Answering.{Answers}
 use Rattle.ledger.proofs.Fitting.{totalled}
@@ -61,14 +62,10 @@ module _ (m : Month) (accounts : List Account) (lv : List ℕ) (ledger : List Al
   unfolding rightLengths
   totals-are u ts c = subst (CappedTotals ts) (ledger-is (r ∙ search parts)) c
 
-module _ (b : Book) (bytes ts : List ℕ) (u : usable b ≡ true) (c : CappedTotals ts (b .ledger)) where
-  pub able-for : Able b ts (askedOf (decodeOf bytes))
-  able-for = able b u ts (totalled b ts u c) (askedOf (decodeOf bytes))
-
-  -- what a step leaves is the record's
-  pub answers-done : (r : Stepped) (accounts : List Account) (lv : List ℕ) (ledger : List Allocation) (totals : List ℕ) → Steps b ts (askedOf (decodeOf bytes)) r accounts lv ledger totals → Answers b bytes r accounts lv ledger
-  answers-done r accounts lv ledger totals s =
-      let h = totalled b ts u c in
+-- what a step leaves is the record's
+module _ (b : Book) (bytes ts : List ℕ) (u : usable b ≡ true) (h : Totalled ts (b .ledger)) where
+  pub answers-as : (r : Stepped) (accounts : List Account) (lv : List ℕ) (ledger : List Allocation) (totals : List ℕ) → Steps b ts (askedOf (decodeOf bytes)) r accounts lv ledger totals → Answers b bytes r accounts lv ledger
+  answers-as r accounts lv ledger totals s =
       let book = record-leaves b u ts h (decodeOf bytes) ∙ sym (left b bytes u) in
       let answer = record-answers b u ts h (decodeOf bytes) ∙ sym (answered b bytes u) in
       record {
@@ -79,6 +76,13 @@ module _ (b : Book) (bytes ts : List ℕ) (u : usable b ≡ true) (c : CappedTot
         levels-are = s .levels-are ∙ ap (λ x. x .levels) book;
         ledger-is = s .ledger-is ∙ ap (λ x. x .ledger) book;
       }
+
+module _ (b : Book) (bytes ts : List ℕ) (u : usable b ≡ true) (c : CappedTotals ts (b .ledger)) where
+  pub able-for : Able b ts (askedOf (decodeOf bytes))
+  able-for = able b u ts (totalled b ts u c) (askedOf (decodeOf bytes))
+
+  pub answers-done : (r : Stepped) (accounts : List Account) (lv : List ℕ) (ledger : List Allocation) (totals : List ℕ) → Steps b ts (askedOf (decodeOf bytes)) r accounts lv ledger totals → Answers b bytes r accounts lv ledger
+  answers-done = answers-as b bytes ts u (totalled b ts u c)
 
 -- a book that is not usable is left as it was, and every record on it is answered 1
 pub answers-unusable : (b : Book) (bytes : List ℕ) → usable b ≡ false → Answers b bytes (record { month = b .month; answer = record { reason = 1; number = 0 } }) (b .accounts) (b .levels) (b .ledger)

@@ -6,3 +6,4 @@ pub mod Check
 pub mod Leaves
 pub mod Inner
 pub mod Answering
+pub mod Running

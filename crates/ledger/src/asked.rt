@@ -27,24 +27,26 @@ fn nothing() -> Fields
     }
 }
 
-// What the record at a place, from 0, asks; kind 0 where it says no step.
-pub fn asked(history: &[u8], at: usize) -> Fields
-    ensures { λ r. ⌜ r ≡ askedOf (decodeOf (recordsOf (now (history .entry)) at)) ⌝ }
+// What a decoded record asks; kind 0 where it says no step.
+fn asked_in(said: Decoded) -> Fields
+    ensures { λ r. ⌜ r ≡ askedOf said ⌝ }
 {
-    let said = record::decode_at(history, at);
     match said {
         Decoded::Step(step) => record::fields_of(step),
         Decoded::Refused => nothing(),
     }
 }
 
+// What the record at a place, from 0, asks.
+pub fn asked(history: &[u8], at: usize) -> Fields
+    ensures { λ r. ⌜ r ≡ askedOf (decodeOf (recordsOf (now (history .entry)) at)) ⌝ }
+{
+    asked_in(record::decode_at(history, at))
+}
+
 // What one record asks, of whatever length it is.
 pub fn asked_by(bytes: &[u8]) -> Fields
     ensures { λ r. ⌜ r ≡ askedOf (decodeOf (now (bytes .entry))) ⌝ }
 {
-    let said = record::decode(bytes);
-    match said {
-        Decoded::Step(step) => record::fields_of(step),
-        Decoded::Refused => nothing(),
-    }
+    asked_in(record::decode(bytes))
 }

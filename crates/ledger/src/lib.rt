@@ -6,6 +6,7 @@ mod asked; // asked.rt: what a record asks
 mod check; // check.rt: whether a lent book is sound, and the totals of its ledger
 mod cut; // cut.rt: the operator's cut, through the promise of share
 mod gate; // gate.rt: reasons 1 to 11, by kind
+mod history; // history.rt: a run over a history
 mod judge; // judge.rt: reasons 12 to 15, and the verdict
 mod lent; // lent.rt: the ledger and the accounts, lent as runs of records
 mod levels; // levels.rt: the table of levels
@@ -18,4 +19,5 @@ mod totals; // totals.rt: the totals of each participant
 
 pub use after::Answer;
 pub use after::Stepped;
+pub use history::answer_in;
 pub use steps::step;

@@ -1,39 +1,18 @@
--- `asked::asked` meets its contract: each arm is the definition's, at what the record says. Assumes nothing.
-use mathlib.Core.Path.{ap, sym, _∙_}
-use Rattle.ledger.specs.Leaves.{askedOf}
+-- `asked::asked` meets its contract: the record at the place is decoded first. Assumes nothing.
+use mathlib.Core.Path.{ap, _∙_}
 use borrow.Author.Needs.{needs}
+use Rattle.ledger.specs.Leaves.{askedOf}
 use Rattle.ledger.proofs.asked.asked.Statement.{statement}
 use Rattle.ledger.proofs.asked.asked.Tie as tie
 
 decode-at-requires : tie.Need-decode-at-requires
 decode-at-requires c κs = search needs
 
-enum-known-said : tie.Need-enum-known-said
-enum-known-said c = search needs
-
-fields-of-requires : tie.Need-fields-of-requires
-fields-of-requires c κs = search needs
-
-enum-told : tie.Need-enum-told
-enum-told c = search needs
-
-nothing-requires : tie.Need-nothing-requires
-nothing-requires c κs = search needs
+asked-in-requires : tie.Need-asked-in-requires
+asked-in-requires c κs = search needs
 
 returns : tie.Need-returns
-returns c = c .fields-of .ensures ∙ ap askedOf (sym (c .before .before .said .given .1) ∙ c .before .before .before .before .decode-at .ensures)
-
-returns-2 : tie.Need-returns-2
-returns-2 c = c .nothing .ensures ∙ ap askedOf (sym (c .before .enum-told .given .1) ∙ c .before .before .before .decode-at .ensures)
+returns c = c .asked-in .ensures ∙ ap askedOf (c .before .decode-at .ensures)
 
 pub asked-spec : {M : Type 1} → statement M
-asked-spec =
-    tie.close
-    (tie.spec
-    decode-at-requires
-    enum-known-said
-    fields-of-requires
-    enum-told
-    nothing-requires
-    returns
-    returns-2)
+asked-spec = tie.close (tie.spec decode-at-requires asked-in-requires returns)

@@ -1,0 +1,146 @@
+-- A run, record after record: a step leaves the totals those of the ledger, since it moves them with its record or, after a cut, works them out anew; so
+-- each record of a history finds a sound book with the totals of its ledger (`Stands`), and after the last one the book and the answers are the
+-- definition's. Assumes nothing.
+use mathlib.Core.Path.{_≡_, refl, sym, ap, subst, _∙_}
+use mathlib.Core.Bool.{true, false}
+use mathlib.Core.List.{List}
+use Prim.Native.Nat.{ℕ, zero, suc, _+_, _<_}
+use native.Mathlib.Numerals.{add-one}
+use native.Mathlib.Omega.{arith}
+use lib.ListN.{length, set, length-set}
+use Rattle.record.specs.Record.{decodeOf}
+use Rattle.record.specs.declared.form.Fields.{Fields}
+use Rattle.book.specs.declared.Month.{Month}
+use Rattle.book.specs.declared.Account.{Account}
+use Rattle.book.specs.declared.Allocation.{Allocation}
+use Rattle.book.specs.Book.{Book}
+use Rattle.book.specs.Run.{usable, recordAnswer, recordBook, recordsOf, bookAfter, answerAt}
+use Rattle.book.proofs.Runs.{record-keeps, after-keeps}
+use Rattle.ledger.specs.declared.after.Stepped.{Stepped}
+use Rattle.ledger.specs.After.{did}
+use Rattle.ledger.specs.Ready.{Totalled}
+use Rattle.ledger.specs.Check.{bookFrom, CappedTotals}
+use Rattle.ledger.specs.Leaves.{askedOf, verdictOn, leaves}
+use Rattle.ledger.specs.Inner.{putOf, Able, Steps}
+use Rattle.ledger.specs.Answering.{Answers}
+use Rattle.ledger.specs.Running.{wordOf, reasonIn, numberIn, written, answered, Does}
+use Rattle.ledger.proofs.ByKind.{either-way}
+use Rattle.ledger.proofs.Fitting.{totalled}
+use Rattle.ledger.proofs.Able.{able, moves-totals}
+use Rattle.ledger.proofs.Stepping.{answers-as}
+
+-- ---- the words of the answers
+pub written-none : (word : ℕ → ℕ) (room : List ℕ) → room ≡ written word 0 room
+unfolding written
+written-none word room = refl
+
+pub written-more : (word : ℕ → ℕ) (i : ℕ) (room : List ℕ) → set (written word i room) i (word i) ≡ written word (i + 1) room
+unfolding written
+written-more word i room = ap (λ n. written word n room) (sym (add-one i))
+
+pub written-long : (word : ℕ → ℕ) (n : ℕ) (room : List ℕ) → length (written word n room) ≡ length room
+unfolding written
+written-long word zero room = refl
+written-long word (suc n) room = length-set (written word n room) n (word n) ∙ written-long word n room
+
+written-same : (word other : ℕ → ℕ) → ((i : ℕ) → word i ≡ other i) → (n : ℕ) (room : List ℕ) → written word n room ≡ written other n room
+unfolding written
+written-same word other e zero room = refl
+written-same word other e (suc n) room = λ k. set (written-same word other e n room k) n (e n k)
+
+-- an answer is had back from its word
+pub reason-back : (reason number : ℕ) → reason < 32 → reasonIn (wordOf reason number) ≡ reason
+reason-back reason number r = omega arith
+
+pub number-back : (reason number : ℕ) → reason < 32 → number < 65536 → numberIn (wordOf reason number) ≡ number
+number-back reason number r n = omega arith
+
+-- ---- one record
+-- where nothing is cut the ledger is the one with the step's record
+uncut : (b : Book) (ts : List ℕ) (f : Fields) → did (verdictOn b ts f) f 14 ≡ false → leaves b f (verdictOn b ts f) .ledger ≡ putOf b ts f
+unfolding leaves
+uncut b ts f e = rw e
+
+module _ (b : Book) (bytes ts : List ℕ) (u : usable b ≡ true) (h : Totalled ts (b .ledger)) (r : Stepped) (accounts : List Account) (lv : List ℕ) (ledger : List Allocation) (totals : List ℕ) (s : Steps b ts (askedOf (decodeOf bytes)) r accounts lv ledger totals) where
+  abbrev f : Fields
+  f = askedOf (decodeOf bytes)
+
+  answers : Answers b bytes r accounts lv ledger
+  answers = answers-as b bytes ts u h r accounts lv ledger totals s
+
+  pub totals-stay : Totalled totals ledger
+  totals-stay =
+      either-way (did (verdictOn b ts f) f 14)
+      (λ e. subst (Totalled totals) (sym (answers .ledger-is)) (totalled (recordBook b bytes) totals (record-keeps b bytes u) (subst (CappedTotals totals) (answers .ledger-is) (s .totals-are .0 e))))
+      (λ e. subst (Totalled totals) (sym (s .ledger-is ∙ uncut b ts f e)) (subst (λ x. Totalled x (putOf b ts f)) (sym (s .totals-are .1 e)) (moves-totals b u ts h f)))
+
+  -- the book that is left, whole
+  pub book-left : bookFrom (r .month) accounts lv ledger ≡ recordBook b bytes
+  book-left = λ i. bookFrom (answers .month i) (answers .accounts-are i) (answers .levels-are i) (answers .ledger-is i)
+
+-- ---- a run
+-- where it stands after i records
+pub record Stands (b : Book) (history room : List ℕ) (i : ℕ) (month : Month) (accounts : List Account) (lv : List ℕ) (ledger : List Allocation) (totals answers : List ℕ) : Type 0 where
+  pub book : bookFrom month accounts lv ledger ≡ bookAfter b (recordsOf history) i
+  pub totals-are : Totalled totals ledger
+  pub answers-are : answers ≡ answered b (recordsOf history) i room
+
+module _ (b : Book) (u : usable b ≡ true) (history room : List ℕ) where
+  abbrev records : ℕ → List ℕ
+  records = recordsOf history
+
+  pub stands-first : (ts : List ℕ) → Totalled ts (b .ledger) → Stands b history room 0 (b .month) (b .accounts) (b .levels) (b .ledger) ts room
+  unfolding bookAfter written
+  stands-first ts h = record { book = refl; totals-are = h; answers-are = refl }
+
+  module _ (i : ℕ) (month : Month) (accounts : List Account) (lv : List ℕ) (ledger : List Allocation) (ts answers : List ℕ) (stands : Stands b history room i month accounts lv ledger ts answers) where
+    abbrev here : Book
+    here = bookFrom month accounts lv ledger
+
+    here-usable : usable here ≡ true
+    here-usable = ap usable (stands .book) ∙ after-keeps b u records i
+
+    -- the next record has what it rests on
+    pub able-next : Able here ts (askedOf (decodeOf (records i)))
+    able-next = able here here-usable ts (stands .totals-are) (askedOf (decodeOf (records i)))
+
+    -- and once it is answered the run stands one further
+    pub stands-next : (r : Stepped) (accounts′ : List Account) (lv′ : List ℕ) (ledger′ : List Allocation) (ts′ answers′ : List ℕ) → Steps here ts (askedOf (decodeOf (records i))) r accounts′ lv′ ledger′ ts′ → answers′ ≡ set answers i (wordOf (r .answer .reason) (r .answer .number)) → Stands b history room (i + 1) (r .month) accounts′ lv′ ledger′ ts′ answers′
+    unfolding bookAfter answerAt written
+    stands-next r accounts′ lv′ ledger′ ts′ answers′ s w =
+        let answer = answers-as here (records i) ts here-usable (stands .totals-are) r accounts′ lv′ ledger′ ts′ s in
+        record {
+          book = book-left here (records i) ts here-usable (stands .totals-are) r accounts′ lv′ ledger′ ts′ s ∙ ap (λ x. recordBook x (records i)) (stands .book) ∙ ap (bookAfter b records) (sym (add-one i));
+          totals-are = totals-stay here (records i) ts here-usable (stands .totals-are) r accounts′ lv′ ledger′ ts′ s;
+          answers-are = w ∙ (λ k. set (stands .answers-are k) i (wordOf (answer .reason k) (answer .number k)))
+              ∙ ap (λ x. set (answered b records i room) i (wordOf (recordAnswer x (records i) .reason) (recordAnswer x (records i) .number))) (stands .book) ∙ ap (λ n. answered b records n room) (sym (add-one i));
+        }
+
+    pub stands-done : Does b history room i month accounts lv ledger answers
+    stands-done = record {
+      month-is = ap (λ x. x .month) (stands .book);
+      accounts-are = ap (λ x. x .accounts) (stands .book);
+      levels-are = ap (λ x. x .levels) (stands .book);
+      ledger-is = ap (λ x. x .ledger) (stands .book);
+      answers-are = stands .answers-are;
+    }
+
+-- ---- on a book that is not usable: it stays, and answers 1 to each record
+module _ (b : Book) (e : usable b ≡ false) (history room : List ℕ) where
+  stays : (n : ℕ) → bookAfter b (recordsOf history) n ≡ b
+  unfolding bookAfter recordBook
+  stays zero = refl
+  stays (suc n) = ap (λ x. recordBook x (recordsOf history n)) (stays n) ∙ rw e
+
+  refused : (i : ℕ) → wordOf (answerAt b (recordsOf history) i .reason) (answerAt b (recordsOf history) i .number) ≡ 1
+  unfolding answerAt recordAnswer
+  refused i = ap (λ x. wordOf (recordAnswer x (recordsOf history i) .reason) (recordAnswer x (recordsOf history i) .number)) (stays i) ∙ rw e
+
+  pub refused-all : (n : ℕ) (answers : List ℕ) → answers ≡ written (λ i. 1) n room → Does b history room n (b .month) (b .accounts) (b .levels) (b .ledger) answers
+  refused-all n answers w = record {
+    month-is = ap (λ x. x .month) (sym (stays n));
+    accounts-are = ap (λ x. x .accounts) (sym (stays n));
+    levels-are = ap (λ x. x .levels) (sym (stays n));
+    ledger-is = ap (λ x. x .ledger) (sym (stays n));
+    answers-are = w ∙ sym (written-same _ (λ i. 1) refused n room);
+  }

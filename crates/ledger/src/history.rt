@@ -1,0 +1,103 @@
+// A run over a history: every record in turn, on one lent book, and an answer to each.
+ghost use mathlib.Core.Path.{_≡_};
+ghost use mathlib.Core.Bool.{Bool};
+ghost use Prim.Native.Nat.{ℕ, _+_, _/_, _≤_, _<_, min};
+ghost use lib.ListN.{length, set};
+ghost use Rattle.book.specs.Run.{usable};
+ghost use Rattle.ledger.specs.Check.{bookFrom};
+ghost use Rattle.ledger.specs.Ready.{Totalled};
+ghost use Rattle.ledger.specs.Running.{wordOf, reasonIn, numberIn, written, Does};
+use crate::after::Answer;
+use crate::asked::asked;
+use crate::steps::step_on;
+use book::Account;
+use book::Allocation;
+use book::Month;
+
+// How many records stand in so many bytes; a short last piece is one.
+fn records_in(bytes: usize) -> usize
+    ensures { λ r. ⌜ r ≡ (bytes + 23) / 24 ⌝ }
+{
+    if bytes % 24 == 0 {
+        bytes / 24
+    } else {
+        bytes / 24 + 1
+    }
+}
+
+// How many records a run does, of so many bytes and with room for so many answers.
+fn turns(bytes: usize, room: usize) -> usize
+    ensures { λ r. ⌜ r ≡ min ((bytes + 23) / 24) room ⌝ }
+{
+    let records = records_in(bytes);
+    if room < records { room } else { records }
+}
+
+// An answer as one word.
+fn word_of(a: Answer) -> u64
+    ensures { λ r. ⌜ r ≡ wordOf (a .reason) (a .number) ⌝ }
+{
+    a.reason as u64 + 32 * a.number as u64
+}
+
+// The answer in a word.
+pub fn answer_in(word: u64) -> Answer
+    ensures { λ r. ⌜ (r .reason ≡ reasonIn word) × (r .number ≡ numberIn word) ⌝ }
+{
+    Answer {
+        reason: (word % 32) as u8,
+        number: (word / 32 % 65536) as u16,
+    }
+}
+
+// An answer written at its record's place.
+fn write_answer(answers: &mut [u64], i: usize, a: Answer)
+    requires { ⌜ i < length (now answers) ⌝ }
+    ensures { λ _. ⌜ now (answers .exit) ≡ set (now (answers .entry)) i (wordOf (a .reason) (a .number)) ⌝ }
+{
+    answers[i] = word_of(a);
+}
+
+// Answer 1 to each of the first n records: the book may not be used.
+fn refuse_all(answers: &mut [u64], n: usize)
+    requires { ⌜ n ≤ length (now answers) ⌝ }
+    ensures { λ _. ⌜ now (answers .exit) ≡ written (λ (i : ℕ). 1) n (now (answers .entry)) ⌝ }
+{
+    let mut i: usize = 0;
+    while i < n {
+        answers[i] = 1;
+        i += 1;
+    }
+}
+
+// The first n records of a history, on a sound book with the totals of its ledger.
+fn do_records(
+    m: Month,
+    accounts: &mut [Account],
+    levels: &mut [u32],
+    ledger: &mut [Allocation],
+    totals: &mut [u32],
+    history: &[u8],
+    answers: &mut [u64],
+    n: usize,
+) -> Month
+    requires { ⌜ (usable (bookFrom m (now accounts) (now levels) (now ledger)) ≡ Bool.true) × (Totalled (now totals) (now ledger) × (n ≤ length (now answers))) ⌝ }
+    ensures { λ r. ⌜ Does (bookFrom m (now (accounts .entry)) (now (levels .entry)) (now (ledger .entry))) (now (history .entry)) (now (answers .entry)) n r (now (accounts .exit)) (now (levels .exit)) (now (ledger .exit)) (now (answers .exit)) ⌝ }
+{
+    let mut month = m;
+    let mut i: usize = 0;
+    while i < n {
+        let stepped = step_on(
+            month,
+            &mut *accounts,
+            &mut *levels,
+            &mut *ledger,
+            &mut *totals,
+            asked(history, i),
+        );
+        month = stepped.month;
+        write_answer(&mut *answers, i, stepped.answer);
+        i += 1;
+    }
+    month
+}
