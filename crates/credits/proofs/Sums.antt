@@ -1,6 +1,6 @@
 -- What the sums are in a book, and how large. In a book whose tables have their lengths they are the book's own credits, by definition. Where no level is
 -- above 10,000,000, one kind over any days, by the days, is not above it, and two are not above twice that. Assumes nothing.
-use mathlib.Core.Path.{_≡_, refl, sym, ap, _∙_}
+use mathlib.Core.Path.{_≡_, refl}
 use mathlib.Core.Bool.{Bool, true, false, cond}
 use mathlib.Core.List.{List}
 use Prim.Native.Nat.{ℕ, _*_, _≤_, _<_}

@@ -21,15 +21,18 @@ use Rattle.book.proofs.Tests.{and-left, and-right, neither}
 use Rattle.book.proofs.Sound.{Opened, fresh-lengths}
 use Rattle.book.proofs.Bounds.{generator-below, customer-below}
 use Rattle.ledger.specs.declared.judge.Verdict.{Verdict}
-use Rattle.ledger.specs.Gate.{rolesOf}
-use Rattle.ledger.specs.Judge.{placeOf, seenIn, totalsAt, gateIn}
+use Rattle.reasons.specs.Parts.{rolesOf}
+use Rattle.gate.specs.Gate.{placeOf}
+use Rattle.ledger.specs.Judge.{seenIn, totalsAt, gateIn}
 use Rattle.ledger.specs.After.{did, allocationAfter, totalsAfter}
 use Rattle.ledger.specs.Ready.{Totalled, TotalsMove, CutFits}
 use Rattle.ledger.specs.Leaves.{verdictOn}
 use Rattle.ledger.specs.Inner.{oldOf, newOf, putOf, Able}
-use Rattle.ledger.proofs.ByKind.{either-way}
+use Rattle.reasons.proofs.Chain.{either-way}
 use Rattle.ledger.proofs.Fitting.{by-kind, month-fits, levels-fit, quantity-low, totals-fit, judgeable}
-use Rattle.ledger.proofs.Passed.{roles-below, submit-registered, submit-quantity, submit-number, amend-quantity, gate-passed, verdict-month-move, verdict-credit-done, verdict-excess}
+use Rattle.reasons.proofs.Roles.{roles-below}
+use Rattle.gate.proofs.Passed.{submit-registered, submit-quantity, submit-number, amend-quantity}
+use Rattle.ledger.proofs.Passed.{gate-passed, verdict-month-move, verdict-credit-done, verdict-excess}
 use Rattle.ledger.proofs.Totalled.{Replaces, rewritten, filled, totalled-after, totals-move}
 
 -- what holds of both choices holds of the chosen one

@@ -1,33 +1,33 @@
 -- The terms of this crate's functions, as a walk that calls them cites them: `calls Get ! …` is the call of `get` as one step (`Walk.Calls`). The terms of a function that is walked are those its own proof is of; the others' are read off their contracts where a walk cites their theorems.
 -- Assumes nothing: these are definitions.
 use mathlib.Core.Path.{_≡_}
-use mathlib.Core.Bool.{true, cond, _&&_}
+use mathlib.Core.Bool.{true}
 use mathlib.Core.Option.{some, none}
-use Prim.Native.Nat.{_≤_, _<_}
+use Prim.Native.Nat.{ℕ, _+_, _/_, _≤_, _<_, min}
 use mathlib.Core.List.{[], _∷_}
-use lib.Dec.{eqb}
 use lib.ListN.{length, getD, set}
 use mir.Syntax.{w8, w32, w64}
 use Rattle.record.specs.Record.{decodeOf}
-use Rattle.book.specs.Book.{noAccount, noAllocation, participants, levelPlaces, mostGiven}
+use Rattle.book.specs.Book.{noAccount, noAllocation}
 use Rattle.book.specs.Cut.{cut}
 use Rattle.book.specs.Run.{usable, recordsOf}
-use Rattle.book.specs.Sound.{sound}
-use Rattle.ledger.specs.Judge.{slot, placeOf, judgedBy, seenIn, verdictIn}
+use Rattle.reasons.specs.Parts.{slot}
+use Rattle.gate.specs.Gate.{placeOf}
+use Rattle.ledger.specs.Judge.{judgedBy, seenIn, verdictIn}
 use Rattle.ledger.specs.After.{did, registeredIn, requirementIn, marginSetIn, accountAfter, allocationAfter, monthAfter, levelsAfter, totalsAfter, answerIn}
-use Rattle.ledger.specs.Check.{bookFrom, CappedTotals}
+use Rattle.sound.specs.Check.{bookFrom}
 use Rattle.ledger.specs.Inner.{Able, RecutTotals, Steps}
 use Rattle.ledger.specs.Answering.{Answers}
 use Rattle.ledger.specs.Leaves.{askedOf, recutAfter}
-use Rattle.ledger.specs.Running.{wordOf, Does}
+use Rattle.ledger.specs.Running.{wordOf, written, Does, Runs}
 use Rattle.ledger.specs.Ready.{LevelsFit, Totalled, SumsFit, Judgeable, CreditDone, TotalsMove, MonthMove, CutFits}
-use Rattle.ledger.proofs.Element.{get-terms, put-terms}
-use Rattle.ledger.proofs.Loader.{load-terms}
-use Rattle.ledger.proofs.Records.{thousandths, account, allocation, answer, fields, month, seen, stepped, verdict}
-use Rattle.ledger.proofs.Setter.{with-terms, set-terms}
-use Rattle.ledger.proofs.Storer.{store-terms}
-use Rattle.ledger.proofs.Walk.Values.{number, boolean, nothing, struct, array}
-use Rattle.ledger.proofs.Walk.Terms.{Terms, plain, shared, mutable}
+use Rattle.walks.proofs.Element.{get-terms, put-terms}
+use Rattle.ledger.proofs.Records.{thousandths, answer, fields, ran, seen, stepped, verdict, whole}
+use Rattle.sound.proofs.Structs.{account, allocation, month}
+use Rattle.walks.proofs.Setter.{with-terms, set-terms}
+use Rattle.walks.proofs.Storer.{store-terms}
+use Rattle.walks.proofs.Walk.Values.{number, boolean, nothing, struct, array}
+use Rattle.walks.proofs.Walk.Terms.{Terms, plain, shared, mutable}
 
 -- ---- what a step sees
 abbrev pub SlotOf : Terms
@@ -75,12 +75,6 @@ AccountAt = get-terms account noAccount
 abbrev pub PutAccount : Terms
 PutAccount = put-terms account noAccount
 
-abbrev pub Load : Terms
-Load = load-terms allocation noAllocation 256
-
-abbrev pub LoadAccounts : Terms
-LoadAccounts = load-terms account noAccount 32
-
 abbrev pub Store : Terms
 Store = store-terms allocation noAllocation 256
 
@@ -125,14 +119,6 @@ CutTo = record {
   result = array (struct allocation) 256;
   requires = some (λ a. CutFits (a .0) (a .1 .0 .0) (a .1 .1 .0));
   ensures = λ a r ws. r ≡ cut (a .0) (a .1 .0 .0) (a .1 .1 .0);
-}
-
-abbrev pub TotalUp : Terms
-TotalUp = record {
-  params = plain (array (struct allocation) 256) ∷ [];
-  result = array (number w32) 96;
-  requires = none;
-  ensures = λ a r ws. CappedTotals r (a .0);
 }
 
 abbrev pub Replace : Terms
@@ -201,30 +187,6 @@ StepOn = record {
 }
 
 -- ---- one record on a lent book
-abbrev pub HasRightLengths : Terms
-HasRightLengths = record {
-  params = plain (struct month) ∷ plain (number w64) ∷ plain (number w64) ∷ plain (number w64) ∷ [];
-  result = boolean;
-  requires = none;
-  ensures = λ a r ws. r ≡ (eqb (length (a .0 .windows)) 4 && (eqb (a .1 .0) participants && (eqb (a .1 .1 .0) levelPlaces && eqb (a .1 .1 .1 .0) mostGiven)));
-}
-
-abbrev pub Rows : Terms
-Rows = record {
-  params = plain boolean ∷ plain (number w64) ∷ [];
-  result = number w64;
-  requires = none;
-  ensures = λ a r ws. r ≡ cond (a .0) (a .1 .0) 0;
-}
-
-abbrev pub IsUsable : Terms
-IsUsable = record {
-  params = plain boolean ∷ plain (struct month) ∷ plain (array (struct account) 32) ∷ shared (number w32) ∷ plain (array (struct allocation) 256) ∷ plain (array (number w32) 96) ∷ [];
-  result = boolean;
-  requires = some (λ a. (a .0 ≡ true → length (a .1 .1 .1 .0) ≡ levelPlaces) × CappedTotals (a .1 .1 .1 .1 .1 .0) (a .1 .1 .1 .1 .0));
-  ensures = λ a r ws. r ≡ (a .0 && sound (bookFrom (a .1 .0) (a .1 .1 .0) (a .1 .1 .1 .0) (a .1 .1 .1 .1 .0)));
-}
-
 abbrev pub AskedBy : Terms
 AskedBy = record {
   params = shared (number w8) ∷ [];
@@ -272,4 +234,52 @@ DoRecords = record {
   result = struct month;
   requires = some (λ a. (usable (bookFrom (a .0) (a .1 .0) (a .1 .1 .0) (a .1 .1 .1 .0)) ≡ true) × (Totalled (a .1 .1 .1 .1 .0) (a .1 .1 .1 .0) × (a .1 .1 .1 .1 .1 .1 .1 .0 ≤ length (a .1 .1 .1 .1 .1 .1 .0))));
   ensures = λ a r ws. Does (bookFrom (a .0) (a .1 .0) (a .1 .1 .0) (a .1 .1 .1 .0)) (a .1 .1 .1 .1 .1 .0) (a .1 .1 .1 .1 .1 .1 .0) (a .1 .1 .1 .1 .1 .1 .1 .0) r (ws .1 .0) (ws .1 .1 .0) (ws .1 .1 .1 .0) (ws .1 .1 .1 .1 .1 .1 .0);
+}
+
+abbrev pub Turns : Terms
+Turns = record {
+  params = plain (number w64) ∷ plain (number w64) ∷ [];
+  result = number w64;
+  requires = none;
+  ensures = λ a r ws. r ≡ min ((a .0 + 23) / 24) (a .1 .0);
+}
+
+abbrev pub RefuseAll : Terms
+RefuseAll = record {
+  params = mutable (number w64) ∷ plain (number w64) ∷ [];
+  result = nothing;
+  requires = some (λ a. a .1 .0 ≤ length (a .0));
+  ensures = λ a r ws. ws .0 ≡ written (λ (i : ℕ). 1) (a .1 .0) (a .0);
+}
+
+abbrev pub PackRan : Terms
+PackRan = record {
+  params = plain (struct month) ∷ plain (number w64) ∷ [];
+  result = struct ran;
+  requires = none;
+  ensures = λ a r ws. r ≡ record { month = a .0; records = a .1 .0 };
+}
+
+abbrev pub Run : Terms
+Run = record {
+  params = plain (struct month) ∷ mutable (struct account) ∷ mutable (number w32) ∷ mutable (struct allocation) ∷ shared (number w8) ∷ mutable (number w64) ∷ [];
+  result = struct ran;
+  requires = none;
+  ensures = λ a r ws. Runs (bookFrom (a .0) (a .1 .0) (a .1 .1 .0) (a .1 .1 .1 .0)) (a .1 .1 .1 .1 .0) (a .1 .1 .1 .1 .1 .0) (r .month) (r .records) (ws .1 .0) (ws .1 .1 .0) (ws .1 .1 .1 .0) (ws .1 .1 .1 .1 .1 .0);
+}
+
+abbrev pub PackWhole : Terms
+PackWhole = record {
+  params = plain (struct ran) ∷ plain (array (struct account) 32) ∷ plain (array (struct allocation) 256) ∷ [];
+  result = struct whole;
+  requires = none;
+  ensures = λ a r ws. r ≡ record { month = a .0 .month; accounts = a .1 .0; ledger = a .1 .1 .0; records = a .0 .records };
+}
+
+abbrev pub RunWhole : Terms
+RunWhole = record {
+  params = plain (struct month) ∷ plain (array (struct account) 32) ∷ mutable (number w32) ∷ plain (array (struct allocation) 256) ∷ shared (number w8) ∷ mutable (number w64) ∷ [];
+  result = struct whole;
+  requires = none;
+  ensures = λ a r ws. Runs (bookFrom (a .0) (a .1 .0) (a .1 .1 .0) (a .1 .1 .1 .0)) (a .1 .1 .1 .1 .0) (a .1 .1 .1 .1 .1 .0) (r .month) (r .records) (r .accounts) (ws .1 .1 .0) (r .ledger) (ws .1 .1 .1 .1 .1 .0);
 }

@@ -18,9 +18,11 @@ use Rattle.book.proofs.Tables.{blank}
 use Rattle.book.proofs.Sums.{total-none}
 use Rattle.book.proofs.Sound.{Opened, opened-of, fresh-of, fresh-lengths}
 use Rattle.book.proofs.Bounds.{pending-most, accepted-most, received-most, price-most}
-use Rattle.ledger.specs.Judge.{slot, placeOf, judgedBy, seenIn}
+use Rattle.reasons.specs.Parts.{slot}
+use Rattle.gate.specs.Gate.{placeOf}
+use Rattle.ledger.specs.Judge.{judgedBy, seenIn}
 use Rattle.ledger.specs.Ready.{LevelsFit, TotalsFit, Totalled, MonthFits, AccountFits, Judgeable}
-use Rattle.ledger.specs.Check.{CappedTotals}
+use Rattle.sound.specs.Check.{CappedTotals}
 
 -- what holds of every open book and of the fresh one
 pub by-kind : (P : Book → Type 0) → ((b : Book) → Opened b → P b) → P fresh → (b : Book) → usable b ≡ true → P b

@@ -26,7 +26,8 @@ use Rattle.ledger.specs.declared.totals.Totals.{Totals}
 use Rattle.credits.specs.Credits.{tradeableIn}
 use Rattle.ledger.specs.Judge.{judgedBy, seenIn, totalsAt, blockedIn, marginIn, lateOf, gateIn, creditsIn, verdictIn}
 use Rattle.ledger.specs.Ready.{Totalled}
-use Rattle.ledger.proofs.ByKind.{earlyReasonOf, lateReasonOf, when-line, lines, either-way, given-range, record-is, gate-is, reason-split}
+use Rattle.gate.proofs.ByKind.{earlyReasonOf, lateReasonOf, given-range, record-is, gate-is, reason-split}
+use Rattle.reasons.proofs.Chain.{when-line, lines, either-way}
 
 -- what a step sees of a book
 abbrev pub seenOf : Book → Step → Seen

@@ -21,7 +21,7 @@ use Rattle.book.specs.Reasons.{reasonOf}
 use Rattle.book.specs.Steps.{done, written, bookOf, refusal, answerOf, numberGiven}
 use Rattle.ledger.specs.declared.judge.Verdict.{Verdict}
 use Rattle.ledger.specs.After.{accountAfter, allocationAfter, monthAfter, levelsAfter, answerIn}
-use Rattle.ledger.specs.Gate.{gateOf}
+use Rattle.gate.specs.Gate.{gateOf}
 use Rattle.ledger.specs.Judge.{verdictIn}
 use Rattle.ledger.specs.Leaves.{askedOf, verdictOn, leaves}
 

@@ -26,7 +26,7 @@ use Rattle.ledger.specs.Judge.{verdictIn}
 use Rattle.ledger.specs.Ready.{Totalled}
 use Rattle.ledger.specs.After.{answerIn}
 use Rattle.ledger.specs.Leaves.{askedOf, verdictOn, leaves}
-use Rattle.ledger.proofs.ByKind.{earlyReasonOf, lateReasonOf, given-range, reason-split}
+use Rattle.gate.proofs.ByKind.{earlyReasonOf, lateReasonOf, given-range, reason-split}
 use Rattle.ledger.proofs.LateByKind.{totals-is, registered-below, gate-of, verdict-reason}
 use Rattle.ledger.proofs.Leaves.{Numbered, Placed, leaves-is, refused-leaves, answers-is, nothing-asked, nothing-answered}
 

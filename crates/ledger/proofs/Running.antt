@@ -17,14 +17,15 @@ use Rattle.book.specs.Book.{Book}
 use Rattle.book.specs.Run.{usable, recordAnswer, recordBook, recordsOf, bookAfter, answerAt}
 use Rattle.book.proofs.Runs.{record-keeps, after-keeps}
 use Rattle.ledger.specs.declared.after.Stepped.{Stepped}
+use Rattle.ledger.specs.declared.history.Ran.{Ran}
 use Rattle.ledger.specs.After.{did}
 use Rattle.ledger.specs.Ready.{Totalled}
-use Rattle.ledger.specs.Check.{bookFrom, CappedTotals}
+use Rattle.sound.specs.Check.{bookFrom, CappedTotals}
 use Rattle.ledger.specs.Leaves.{askedOf, verdictOn, leaves}
 use Rattle.ledger.specs.Inner.{putOf, Able, Steps}
 use Rattle.ledger.specs.Answering.{Answers}
-use Rattle.ledger.specs.Running.{wordOf, reasonIn, numberIn, written, answered, Does}
-use Rattle.ledger.proofs.ByKind.{either-way}
+use Rattle.ledger.specs.Running.{wordOf, reasonIn, numberIn, turnsOf, written, answered, Does, Runs}
+use Rattle.reasons.proofs.Chain.{either-way}
 use Rattle.ledger.proofs.Fitting.{totalled}
 use Rattle.ledger.proofs.Able.{able, moves-totals}
 use Rattle.ledger.proofs.Stepping.{answers-as}
@@ -124,6 +125,11 @@ module _ (b : Book) (u : usable b ≡ true) (history room : List ℕ) where
       ledger-is = ap (λ x. x .ledger) (stands .book);
       answers-are = stands .answers-are;
     }
+
+-- ---- a whole run, with what it packs
+pub runs-as : (b : Book) (history room : List ℕ) (n : ℕ) → n ≡ turnsOf history (length room) → (month : Month) (accounts : List Account) (lv : List ℕ) (ledger : List Allocation) (answers : List ℕ) → Does b history room n month accounts lv ledger answers
+    → (r : Ran) → r ≡ record { month = month; records = n } → Runs b history room (r .month) (r .records) accounts lv ledger answers
+runs-as b history room n e month accounts lv ledger answers d r p = subst (λ (x : Ran). Runs b history room (x .month) (x .records) accounts lv ledger answers) (sym p) (record { records-are = e; does = d })
 
 -- ---- on a book that is not usable: it stays, and answers 1 to each record
 module _ (b : Book) (e : usable b ≡ false) (history room : List ℕ) where

@@ -1,25 +1,17 @@
--- One record on a lent book, from what the code works out to document 01: the test of the tables is `usable`, what a step leaves is the book of the
--- record, and a book that is not usable is left as it was. Assumes nothing.
-use mathlib.Core.Path.{_≡_, refl, sym, ap, subst, _∙_}
-use mathlib.Core.Bool.{Bool, true, false, cond, _&&_}
-use mathlib.Core.List.{List, _++_, append-nil}
-use Prim.Native.Nat.{ℕ, _-_}
-use native.Mathlib.Omega.{arith}
-use lib.Dec.{eqb}
-use lib.ListN.{length, take, replicate}
-use lib.Seq.{take-all}
-use borrow.Author.Tests.{eqb-true}
+-- One record on a lent book, from what the code works out to document 01: what a step leaves is the book of the record, and a book that is not usable
+-- is left as it was. Assumes nothing.
+use mathlib.Core.Path.{_≡_, sym, ap, _∙_}
+use mathlib.Core.Bool.{true, false}
+use mathlib.Core.List.{List}
+use Prim.Native.Nat.{ℕ}
 use Rattle.record.specs.Record.{decodeOf}
-use Rattle.book.specs.declared.Month.{Month}
 use Rattle.book.specs.declared.Account.{Account}
 use Rattle.book.specs.declared.Allocation.{Allocation}
-use Rattle.book.specs.Book.{Book, noAccount, noAllocation, participants, mostGiven, levelPlaces}
-use Rattle.book.specs.Sound.{rightLengths, sound}
+use Rattle.book.specs.Book.{Book}
 use Rattle.book.specs.Run.{usable, recordBook, recordAnswer}
-use Rattle.book.proofs.Tests.{parts}
 use Rattle.book.proofs.Runs.{left, answered}
 use Rattle.ledger.specs.declared.after.Stepped.{Stepped}
-use Rattle.ledger.specs.Check.{bookFrom, CappedTotals}
+use Rattle.sound.specs.Check.{CappedTotals}
 use Rattle.ledger.specs.Leaves.{askedOf}
 use Rattle.ledger.specs.Ready.{Totalled}
 use Rattle.ledger.specs.Inner.{Able, Steps}
@@ -27,40 +19,6 @@ use Rattle.ledger.specs.Answering.{Answers}
 use Rattle.ledger.proofs.Fitting.{totalled}
 use Rattle.ledger.proofs.Able.{able}
 use Rattle.ledger.proofs.Placed.{record-leaves, record-answers}
-
--- a whole table is read as it is
-whole : {A : Type 0} (n : ℕ) (l : List A) (d : A) → length l ≡ n → take n l ++ replicate (n - n) d ≡ l
-whole n l d e =
-    let none : n - n ≡ 0 = omega arith in
-    rw none (append-nil (take n l) ∙ take-all n l (omega arith))
-
-module _ (m : Month) (accounts : List Account) (lv : List ℕ) (ledger : List Allocation) (right : Bool) (a : List Account) (t : List Allocation)
-    (r : right ≡ (eqb (length (m .windows)) 4 && (eqb (length accounts) participants && (eqb (length lv) levelPlaces && eqb (length ledger) mostGiven))))
-    (e-t : t ≡ take (cond right 256 0) ledger ++ replicate (256 - cond right 256 0) noAllocation)
-    (e-a : a ≡ take (cond right 32 0) accounts ++ replicate (32 - cond right 32 0) noAccount) where
-  accounts-is : right ≡ true → a ≡ accounts
-  accounts-is e =
-      let l = sym r ∙ e in
-      (rw e at e-a) ∙ whole 32 accounts noAccount (eqb-true (length accounts) participants (search parts))
-
-  ledger-is : right ≡ true → t ≡ ledger
-  ledger-is e =
-      let l = sym r ∙ e in
-      (rw e at e-t) ∙ whole 256 ledger noAllocation (eqb-true (length ledger) mostGiven (search parts))
-
-  -- the test that the code makes
-  pub usable-is : (right && sound (bookFrom m a lv t)) ≡ usable (bookFrom m accounts lv ledger)
-  unfolding rightLengths
-  usable-is = by right refl
-    where
-      by : (x : Bool) → right ≡ x → (x && sound (bookFrom m a lv t)) ≡ ((eqb (length (m .windows)) 4 && (eqb (length accounts) participants && (eqb (length lv) levelPlaces && eqb (length ledger) mostGiven))) && sound (bookFrom m accounts lv ledger))
-      by true e = rw (sym r ∙ e) (λ i. sound (bookFrom m (accounts-is e i) lv (ledger-is e i)))
-      by false e = rw (sym r ∙ e)
-
-  -- and the totals that it takes
-  pub totals-are : usable (bookFrom m accounts lv ledger) ≡ true → (ts : List ℕ) → CappedTotals ts t → CappedTotals ts ledger
-  unfolding rightLengths
-  totals-are u ts c = subst (CappedTotals ts) (ledger-is (r ∙ search parts)) c
 
 -- what a step leaves is the record's
 module _ (b : Book) (bytes ts : List ℕ) (u : usable b ≡ true) (h : Totalled ts (b .ledger)) where

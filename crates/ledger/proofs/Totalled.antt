@@ -15,7 +15,8 @@ use Rattle.book.specs.Book.{noAllocation, participants, mostQuantity}
 use Rattle.book.specs.Words.{isPending, isAccepted, pendingIn, acceptedIn, receivedIn, total}
 use Rattle.book.proofs.Tests.{and-left, and-right}
 use Rattle.book.proofs.Sums.{total-set}
-use Rattle.ledger.specs.After.{pends, counts, totalsAfter}
+use Rattle.reasons.specs.Parts.{pends, counts}
+use Rattle.ledger.specs.After.{totalsAfter}
 use Rattle.ledger.specs.Ready.{TotalsFit, Totalled, TotalsMove}
 
 -- a record of the same parties, or one in an empty place

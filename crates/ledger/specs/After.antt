@@ -11,9 +11,10 @@ use Rattle.book.specs.declared.Month.{Month}
 use Rattle.book.specs.declared.Account.{Account}
 use Rattle.book.specs.declared.Allocation.{Allocation}
 use Rattle.book.specs.declared.Status.the-variants as S
-use Rattle.book.specs.Words.{isPending, isAccepted, levelPlace}
+use Rattle.book.specs.Words.{levelPlace}
 use Rattle.book.specs.Cut.{withQuantity}
 use Rattle.book.specs.Steps.{Answer, atMinute, opened, windowSet, numbered, withRoles, withRequirement, withMargin, withStatus, changed}
+use Rattle.reasons.specs.Parts.{pends, counts}
 use Rattle.ledger.specs.declared.judge.Verdict.{Verdict}
 
 -- the step is done, and of that kind
@@ -62,12 +63,6 @@ levelsAfter m f v lv =
     cond (did v f 6 || did v f 7) (changed (movedBy (eqb (f .kind) 6) (f .quantity .0)) lv (levelPlace (f .a) (f .selector) (f .day)) (m .days + 1 - f .day)) lv
 
 -- the totals: of the record's parties, less what the old record gave them and with what the new one gives
-abbrev pub pends : Allocation → ℕ
-pends l = cond (isPending (l .status)) (l .quantity .0) 0
-
-abbrev pub counts : Allocation → ℕ
-counts l = cond (isAccepted (l .status)) (l .quantity .0) 0
-
 unfoldable pub totalsAfter : Allocation → Allocation → List ℕ → List ℕ
 totalsAfter old new ts =
     cond (eqb (pends old) (pends new) && eqb (counts old) (counts new)) ts

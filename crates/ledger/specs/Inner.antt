@@ -10,10 +10,11 @@ use Rattle.book.specs.declared.Account.{Account}
 use Rattle.book.specs.declared.Allocation.{Allocation}
 use Rattle.book.specs.Book.{Book, noAllocation, participants, mostGiven}
 use Rattle.ledger.specs.declared.judge.Verdict.{Verdict}
-use Rattle.ledger.specs.Judge.{placeOf, seenIn}
+use Rattle.gate.specs.Gate.{placeOf}
+use Rattle.ledger.specs.Judge.{seenIn}
 use Rattle.ledger.specs.After.{did, allocationAfter, totalsAfter, answerIn}
 use Rattle.ledger.specs.Ready.{LevelsFit, Judgeable, CreditDone, TotalsMove, MonthMove, CutFits}
-use Rattle.ledger.specs.Check.{CappedTotals}
+use Rattle.sound.specs.Check.{CappedTotals}
 use Rattle.ledger.specs.Leaves.{verdictOn, leaves}
 use Rattle.ledger.specs.declared.after.Stepped.{Stepped}
 

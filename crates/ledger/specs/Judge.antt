@@ -12,23 +12,16 @@ use Rattle.record.specs.declared.form.Fields.{Fields}
 use Rattle.book.specs.declared.Month.{Month}
 use Rattle.book.specs.declared.Account.{Account}
 use Rattle.book.specs.declared.Allocation.{Allocation}
-use Rattle.book.specs.Book.{noAccount, noAllocation, participants, mostGiven, mostLevel}
+use Rattle.book.specs.Book.{noAccount, noAllocation, participants, mostLevel}
 use Rattle.book.specs.Words.{levelPlace, exposedDays}
-use Rattle.book.specs.Reasons.{some, change, from-to}
+use Rattle.book.specs.Reasons.{some, change}
 use Rattle.credits.specs.Credits.{tradeableIn}
 use Rattle.ledger.specs.declared.seen.Seen.{Seen}
 use Rattle.ledger.specs.declared.totals.Totals.{Totals}
 use Rattle.ledger.specs.declared.judge.Verdict.{Verdict}
-use Rattle.ledger.specs.Gate.{when, first, rolesOf, gateOf}
-
--- ---- where a step looks
--- the place of a participant's account; of one past the last, the first place
-abbrev pub slot : ℕ → ℕ
-slot p = cond (ltb p participants) p 0
-
--- the place in the ledger that a step reads and writes: the next one for SUBMIT, that of the number it names, or the first
-abbrev pub placeOf : Month → Fields → ℕ
-placeOf m f = cond (eqb (f .kind) 8) (cond (ltb (m .given) mostGiven) (m .given) 0) (cond (from-to 1 mostGiven (f .number)) (f .number - 1) 0)
+use Rattle.reasons.specs.Chain.{when, first}
+use Rattle.reasons.specs.Parts.{slot, rolesOf}
+use Rattle.gate.specs.Gate.{placeOf, gateOf}
 
 -- whose credits, totals and margin a step is judged by: A, but the generator at ACCEPT and the customer at AGREE REVERSAL
 abbrev pub judgedBy : Fields → Allocation → ℕ

@@ -12,7 +12,9 @@ use Rattle.book.specs.declared.Allocation.{Allocation}
 use Rattle.book.specs.Book.{Book, noAccount, noAllocation}
 use Rattle.book.specs.Cut.{cut}
 use Rattle.ledger.specs.declared.judge.Verdict.{Verdict}
-use Rattle.ledger.specs.Judge.{slot, placeOf, seenIn, verdictIn}
+use Rattle.reasons.specs.Parts.{slot}
+use Rattle.gate.specs.Gate.{placeOf}
+use Rattle.ledger.specs.Judge.{seenIn, verdictIn}
 use Rattle.ledger.specs.After.{did, accountAfter, allocationAfter, monthAfter, levelsAfter}
 
 -- what a record asks; kind 0 where it says no step

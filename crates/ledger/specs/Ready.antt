@@ -10,7 +10,7 @@ use Rattle.book.specs.declared.Account.{Account}
 use Rattle.book.specs.declared.Allocation.{Allocation}
 use Rattle.book.specs.Book.{noAllocation, mostEnd, mostGiven, mostLevel, mostQuantity, mostNet, mostFigure, mostPrice, participants, levelPlaces}
 use Rattle.book.specs.Words.{total, pendingIn, acceptedIn, receivedIn}
-use Rattle.ledger.specs.After.{pends, counts}
+use Rattle.reasons.specs.Parts.{pends, counts}
 use Rattle.ledger.specs.declared.seen.Seen.{Seen}
 use Rattle.ledger.specs.declared.totals.Totals.{Totals}
 use Rattle.ledger.specs.declared.judge.Verdict.{Verdict}

@@ -5,16 +5,18 @@ ghost use Prim.Native.Nat.{_≤_, _<_};
 ghost use lib.IntN.{natAbs};
 ghost use Rattle.book.specs.Book.{mostGiven, mostEnd};
 ghost use Rattle.book.specs.Steps.{atMinute, opened, withEnd, windowSet, numbered};
-ghost use Rattle.ledger.specs.After.{did, registeredIn, requirementIn, marginSetIn, allocationAfter, monthAfter, pends, counts, totalsAfter, answerIn};
+ghost use Rattle.ledger.specs.After.{did, registeredIn, requirementIn, marginSetIn, allocationAfter, monthAfter, totalsAfter, answerIn};
 ghost use Rattle.ledger.specs.Ready.{TotalsMove, MonthMove};
 use crate::judge::Verdict;
 use crate::margin::net_of;
-use crate::tests::both;
 use book::Account;
 use book::Allocation;
 use book::Month;
 use book::Status;
 use book::Window;
+use reasons::accepted_in;
+use reasons::both;
+use reasons::pending_in;
 use record::Amount;
 use record::Fields;
 use units::Cents;
@@ -123,36 +125,6 @@ pub fn allocation_after(l: Allocation, f: Fields, v: Verdict) -> Allocation
             }
         }
         _ => l,
-    }
-}
-
-// What a record adds to its generator's pending quantity.
-pub fn pending_in(l: Allocation) -> u32
-    ensures { λ r. ⌜ r ≡ pends l ⌝ }
-{
-    let s = l.status;
-    match s {
-        Status::Empty => 0,
-        Status::Submitted => l.quantity.0,
-        Status::Withdrawn => 0,
-        Status::Accepted => 0,
-        Status::ReversalAsked(_) => 0,
-        Status::Reversed => 0,
-    }
-}
-
-// What a record adds to its parties' accepted quantities.
-pub fn accepted_in(l: Allocation) -> u32
-    ensures { λ r. ⌜ r ≡ counts l ⌝ }
-{
-    let s = l.status;
-    match s {
-        Status::Empty => 0,
-        Status::Submitted => 0,
-        Status::Withdrawn => 0,
-        Status::Accepted => l.quantity.0,
-        Status::ReversalAsked(_) => l.quantity.0,
-        Status::Reversed => 0,
     }
 }
 

@@ -8,9 +8,9 @@ ghost use Rattle.book.specs.Book.{mostGiven, mostQuantity};
 ghost use Rattle.book.specs.Words.{isAccepted, acceptedIn};
 ghost use Rattle.book.specs.Cut.{isCut, withQuantity, recut, cut};
 ghost use Rattle.ledger.specs.Ready.{CutFits};
-use crate::tests::both;
 use book::Allocation;
 use book::Status;
+use reasons::both;
 use share::share;
 use units::Thousandths;
 
@@ -29,7 +29,7 @@ fn is_accepted(status: Status) -> bool
 }
 
 // Whether a record is one of the generator's accepted allocations.
-fn is_cut(generator: u8, l: Allocation) -> bool
+pub fn is_cut(generator: u8, l: Allocation) -> bool
     ensures { λ r. ⌜ r ≡ isCut generator l ⌝ }
 {
     let s = l.status;
@@ -37,7 +37,7 @@ fn is_cut(generator: u8, l: Allocation) -> bool
 }
 
 // What a record weighs in a generator's cut.
-fn weight(generator: u8, l: Allocation) -> u64
+pub fn weight(generator: u8, l: Allocation) -> u64
     ensures { λ r. ⌜ r ≡ acceptedIn generator l ⌝ }
 {
     if is_cut(generator, l) {

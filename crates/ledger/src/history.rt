@@ -4,15 +4,29 @@ ghost use mathlib.Core.Bool.{Bool};
 ghost use Prim.Native.Nat.{ℕ, _+_, _/_, _≤_, _<_, min};
 ghost use lib.ListN.{length, set};
 ghost use Rattle.book.specs.Run.{usable};
-ghost use Rattle.ledger.specs.Check.{bookFrom};
+ghost use Rattle.sound.specs.Check.{bookFrom};
 ghost use Rattle.ledger.specs.Ready.{Totalled};
-ghost use Rattle.ledger.specs.Running.{wordOf, reasonIn, numberIn, written, Does};
+ghost use Rattle.ledger.specs.Running.{wordOf, reasonIn, numberIn, written, Does, Runs};
 use crate::after::Answer;
 use crate::asked::asked;
 use crate::steps::step_on;
 use book::Account;
 use book::Allocation;
 use book::Month;
+
+// What a run leaves beside the lent tables: the month, and how many records it has answered.
+pub struct Ran {
+    pub month: Month,
+    pub records: usize,
+}
+
+// The same of a run whose accounts and ledger were handed over whole.
+pub struct Whole {
+    pub month: Month,
+    pub accounts: [Account; 32],
+    pub ledger: [Allocation; 256],
+    pub records: usize,
+}
 
 // How many records stand in so many bytes; a short last piece is one.
 fn records_in(bytes: usize) -> usize
@@ -100,4 +114,82 @@ fn do_records(
         i += 1;
     }
     month
+}
+
+// What a run leaves, in one.
+fn pack(month: Month, records: usize) -> Ran
+    ensures { λ r. ⌜ r ≡ record { month = month; records = records } ⌝ }
+{
+    Ran { month, records }
+}
+
+// A history on a lent book, whatever the book holds and however long its tables and the history are:
+// every record in turn, as far as there is room for answers.
+pub fn run(
+    month: Month,
+    accounts: &mut [Account],
+    levels: &mut [u32],
+    ledger: &mut [Allocation],
+    history: &[u8],
+    answers: &mut [u64],
+) -> Ran
+    ensures { λ r. ⌜ Runs (bookFrom month (now (accounts .entry)) (now (levels .entry)) (now (ledger .entry))) (now (history .entry)) (now (answers .entry)) (r .month) (r .records) (now (accounts .exit)) (now (levels .exit)) (now (ledger .exit)) (now (answers .exit)) ⌝ }
+{
+    let records = turns(history.len(), answers.len());
+    let found = sound::check(month, &*accounts, &*levels, &*ledger);
+    if found.usable {
+        let mut totals = found.totals;
+        let after = do_records(
+            month,
+            &mut *accounts,
+            &mut *levels,
+            &mut *ledger,
+            &mut totals,
+            history,
+            &mut *answers,
+            records,
+        );
+        pack(after, records)
+    } else {
+        refuse_all(&mut *answers, records);
+        pack(month, records)
+    }
+}
+
+// What a run on whole tables leaves, in one.
+fn pack_whole(ran: Ran, accounts: [Account; 32], ledger: [Allocation; 256]) -> Whole
+    ensures { λ r. ⌜ r ≡ record { month = ran .month; accounts = accounts; ledger = ledger; records = ran .records } ⌝ }
+{
+    let month = ran.month;
+    Whole {
+        month,
+        accounts,
+        ledger,
+        records: ran.records,
+    }
+}
+
+// A run with the accounts and the ledger handed over whole, for callers that cannot lend a run of
+// records.
+pub fn run_whole(
+    month: Month,
+    accounts: [Account; 32],
+    levels: &mut [u32],
+    ledger: [Allocation; 256],
+    history: &[u8],
+    answers: &mut [u64],
+) -> Whole
+    ensures { λ r. ⌜ Runs (bookFrom month accounts (now (levels .entry)) ledger) (now (history .entry)) (now (answers .entry)) (r .month) (r .records) (r .accounts) (now (levels .exit)) (r .ledger) (now (answers .exit)) ⌝ }
+{
+    let mut people = accounts;
+    let mut allocations = ledger;
+    let ran = run(
+        month,
+        &mut people,
+        &mut *levels,
+        &mut allocations,
+        history,
+        &mut *answers,
+    );
+    pack_whole(ran, people, allocations)
 }

@@ -1,8 +1,7 @@
 // The ledger and the accounts, lent as runs of records: thin functions that read and rewrite them.
 ghost use mathlib.Core.Path.{_≡_};
-ghost use Prim.Native.Nat.{_-_, _≤_, _<_};
-ghost use mathlib.Core.List.{_++_};
-ghost use lib.ListN.{length, getD, set, take, replicate};
+ghost use Prim.Native.Nat.{_<_};
+ghost use lib.ListN.{length, getD, set};
 ghost use Rattle.book.specs.Book.{noAccount, noAllocation};
 ghost use Rattle.ledger.specs.Judge.{seenIn};
 ghost use mathlib.Core.Bool.{Bool};
@@ -14,19 +13,16 @@ use crate::after::is_done;
 use crate::after::with_margin;
 use crate::after::with_requirement;
 use crate::after::with_roles;
-use crate::check::total_up;
 use crate::cut::cut_to;
 use crate::judge::Verdict;
 use crate::seen::Seen;
 use crate::seen::judged_by;
 use crate::seen::pack;
 use crate::seen::place;
-use crate::seen::slot_of;
 use book::Account;
 use book::Allocation;
 use book::Month;
-use book::fresh_accounts;
-use book::fresh_ledger;
+use reasons::slot_of;
 use record::Fields;
 
 // The record at a place.
@@ -98,34 +94,6 @@ pub fn see(m: Month, accounts: &[Account], ledger: &[Allocation], f: Fields) -> 
     pack(first, second, here, judged)
 }
 
-// An array of the first n records; the others are empty.
-pub fn load(ledger: &[Allocation], n: usize) -> [Allocation; 256]
-    requires { ⌜ (n ≤ length (now ledger)) × (n ≤ 256) ⌝ }
-    ensures { λ r. ⌜ r ≡ take n (now (ledger .entry)) ++ replicate (256 - n) noAllocation ⌝ }
-{
-    let mut t = fresh_ledger();
-    let mut i: usize = 0;
-    while i < n {
-        t = with_record(t, i, ledger[i]);
-        i += 1;
-    }
-    t
-}
-
-// The same of the first n accounts.
-pub fn load_accounts(accounts: &[Account], n: usize) -> [Account; 32]
-    requires { ⌜ (n ≤ length (now accounts)) × (n ≤ 32) ⌝ }
-    ensures { λ r. ⌜ r ≡ take n (now (accounts .entry)) ++ replicate (32 - n) noAccount ⌝ }
-{
-    let mut t = fresh_accounts();
-    let mut i: usize = 0;
-    while i < n {
-        t = with_account(t, i, accounts[i]);
-        i += 1;
-    }
-    t
-}
-
 // An array of records, written back whole.
 pub fn store(ledger: &mut [Allocation], t: [Allocation; 256])
     requires { ⌜ length (now ledger) ≡ 256 ⌝ }
@@ -136,25 +104,6 @@ pub fn store(ledger: &mut [Allocation], t: [Allocation; 256])
         ledger[i] = record_at(t, i);
         i += 1;
     }
-}
-
-// The array with one record more.
-fn with_record(t: [Allocation; 256], i: usize, l: Allocation) -> [Allocation; 256]
-    requires { ⌜ i < 256 ⌝ }
-    ensures { λ r. ⌜ r ≡ set t i l ⌝ }
-{
-    let mut u = t;
-    u[i] = l;
-    u
-}
-
-fn with_account(t: [Account; 32], i: usize, a: Account) -> [Account; 32]
-    requires { ⌜ i < 32 ⌝ }
-    ensures { λ r. ⌜ r ≡ set t i a ⌝ }
-{
-    let mut u = t;
-    u[i] = a;
-    u
 }
 
 fn record_at(t: [Allocation; 256], i: usize) -> Allocation
@@ -183,9 +132,9 @@ pub fn recut(ledger: &mut [Allocation], totals: &mut [u32], f: Fields, v: Verdic
     ensures { λ _. ⌜ (now (ledger .exit) ≡ recutAfter f v (now (ledger .entry))) × RecutTotals f v (now (totals .entry)) (now (totals .exit)) (now (ledger .exit)) ⌝ }
 {
     if is_done(v, f, 14) {
-        let t = load(&*ledger, 256);
+        let t = sound::records(&*ledger);
         let u = cut_to(f.a, v.credits, t);
         store(&mut *ledger, u);
-        replace(&mut *totals, total_up(u));
+        replace(&mut *totals, sound::totals(u));
     }
 }

@@ -8,12 +8,10 @@ ghost use Rattle.ledger.specs.Judge.{blocks, blockedIn};
 ghost use Rattle.ledger.specs.After.{movedBy, levelsAfter};
 ghost use Rattle.ledger.specs.Ready.{LevelsFit, CreditDone};
 use crate::judge::Verdict;
-use crate::tests::either;
 use book::Month;
+use reasons::MOST_LEVEL;
+use reasons::either;
 use record::Fields;
-
-// The most that a level can be.
-pub const MOST_LEVEL: u32 = 10_000_000;
 
 // The place of a level in the table.
 pub fn level_place(participant: u8, kind: u8, day: u8) -> usize

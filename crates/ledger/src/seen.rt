@@ -1,16 +1,14 @@
 // What a step sees of the accounts and the ledger.
 ghost use mathlib.Core.Path.{_≡_};
 ghost use Prim.Native.Nat.{_<_};
-ghost use Rattle.book.specs.Book.{participants, mostGiven};
-ghost use Rattle.ledger.specs.Judge.{slot, placeOf, judgedBy};
-use crate::tests::PARTICIPANTS;
+ghost use Rattle.book.specs.Book.{mostGiven};
+ghost use Rattle.gate.specs.Gate.{placeOf};
+ghost use Rattle.ledger.specs.Judge.{judgedBy};
 use book::Account;
 use book::Allocation;
 use book::Month;
+use reasons::MOST_GIVEN;
 use record::Fields;
-
-// The most numbers that can be given.
-pub const MOST_GIVEN: u16 = 256;
 
 // The accounts at the places of A, of B and of the participant that the step is judged by, and the
 // record at the step's place in the ledger.
@@ -19,17 +17,6 @@ pub struct Seen {
     pub second: Account,
     pub here: Allocation,
     pub judged: Account,
-}
-
-// The place of a participant's account; of one past the last, the first place.
-pub fn slot_of(participant: u8) -> usize
-    ensures { λ r. ⌜ (r ≡ slot participant) × (r < participants) ⌝ }
-{
-    if participant < PARTICIPANTS {
-        participant as usize
-    } else {
-        0
-    }
 }
 
 // The place in the ledger that a step reads and writes.

@@ -1,5 +1,5 @@
 // One step on a lent book: all that it reads, then its verdict, then all that it writes.
-ghost use Rattle.ledger.specs.Check.{bookFrom};
+ghost use Rattle.sound.specs.Check.{bookFrom};
 ghost use Rattle.ledger.specs.Inner.{Able, Steps};
 ghost use Rattle.ledger.specs.Answering.{Answers};
 use crate::after::Stepped;
@@ -8,23 +8,17 @@ use crate::after::finish;
 use crate::after::move_totals;
 use crate::after::unusable;
 use crate::asked::asked_by;
-use crate::check::has_right_lengths;
-use crate::check::is_usable;
-use crate::check::rows;
-use crate::check::total_up;
 use crate::judge::judge;
-use crate::lent::load;
-use crate::lent::load_accounts;
 use crate::lent::put;
 use crate::lent::recut;
 use crate::lent::see;
 use crate::lent::write_account;
 use crate::levels::credit;
 use crate::seen::place;
-use crate::seen::slot_of;
 use book::Account;
 use book::Allocation;
 use book::Month;
+use reasons::slot_of;
 use record::Fields;
 
 // The step that a record asks, on a book whose tables have the numbers that it rests on.
@@ -61,11 +55,9 @@ pub fn step(
 ) -> Stepped
     ensures { λ r. ⌜ Answers (bookFrom month (now (accounts .entry)) (now (levels .entry)) (now (ledger .entry))) (now (bytes .entry)) r (now (accounts .exit)) (now (levels .exit)) (now (ledger .exit)) ⌝ }
 {
-    let right = has_right_lengths(month, accounts.len(), levels.len(), ledger.len());
-    let t = load(&*ledger, rows(right, 256));
-    let a = load_accounts(&*accounts, rows(right, 32));
-    let mut totals = total_up(t);
-    if is_usable(right, month, a, &*levels, t, totals) {
+    let found = sound::check(month, &*accounts, &*levels, &*ledger);
+    if found.usable {
+        let mut totals = found.totals;
         step_on(
             month,
             &mut *accounts,

@@ -3,7 +3,7 @@
 ghost use mathlib.Core.Path.{_≡_};
 ghost use Rattle.ledger.specs.Judge.{totalsAt};
 ghost use Rattle.ledger.specs.Ready.{TotalsFit, SumsFit};
-use crate::tests::PARTICIPANTS;
+use reasons::PARTICIPANTS;
 use units::Thousandths;
 
 // The totals of one participant.

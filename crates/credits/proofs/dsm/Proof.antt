@@ -1,5 +1,5 @@
 -- `dsm` meets its contract: where there is a row, the levels of kind 4 stand in one run inside the table. Assumes nothing.
-use mathlib.Core.Path.{_≡_, sym, _∙_}
+use mathlib.Core.Path.{sym, _∙_}
 use Prim.Native.Nat.{_+_, _*_, _/_}
 use native.Mathlib.Omega.{arith}
 use borrow.Author.Needs.{needs}

@@ -1,7 +1,7 @@
 -- `over_days` meets its contract. The invariant: the sum is that of the levels passed, each of 32 bits. The measure is what is left of the days.
 -- Assumes nothing.
 use mathlib.Core.Path.{_≡_, ap, _∙_}
-use Prim.Native.Nat.{_+_, _-_, _*_, _≤_}
+use Prim.Native.Nat.{_-_, _*_, _≤_}
 use native.Mathlib.Omega.{arith}
 use borrow.Author.Needs.{needs}
 use Rattle.credits.specs.Credits.{overRun}

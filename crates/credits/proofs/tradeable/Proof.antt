@@ -1,7 +1,6 @@
 -- `tradeable` meets its contract: where there is a row, the levels of kinds 1 and 2 stand in two runs inside the table, and their sum is far below 64 bits.
 -- Assumes nothing.
-use mathlib.Core.Path.{_≡_, sym, _∙_}
-use mathlib.Core.Bool.{cond}
+use mathlib.Core.Path.{sym, _∙_}
 use Prim.Native.Nat.{_+_, _*_, _/_}
 use native.Mathlib.Omega.{arith}
 use borrow.Author.Needs.{needs}

@@ -9,7 +9,8 @@ use borrow.Author.Needs.{needs}
 use lib.Dec.{eqb}
 use lib.ListN.{getD, set, length-set}
 use Rattle.book.specs.Words.{isPending, isAccepted}
-use Rattle.ledger.specs.After.{pends, counts, totalsAfter}
+use Rattle.reasons.specs.Parts.{pends, counts}
+use Rattle.ledger.specs.After.{totalsAfter}
 use Rattle.ledger.proofs.after.move_totals.Statement.{statement}
 use Rattle.ledger.proofs.after.move_totals.Tie as tie
 

@@ -10,7 +10,7 @@ use Rattle.book.specs.declared.Allocation.{Allocation}
 use Rattle.book.specs.Book.{noAllocation}
 use Rattle.book.specs.Cut.{isCut, withQuantity}
 use Rattle.book.proofs.Recut.{recut-at, recut-length, any-default}
-use Rattle.ledger.proofs.Turns.{Written, written-none, written-more, written-all}
+use Rattle.sound.proofs.Turns.{Written, written-none, written-more, written-all}
 use Rattle.ledger.proofs.cut.recut_by.Statement.{statement}
 use Rattle.ledger.proofs.cut.recut_by.Tie as tie
 

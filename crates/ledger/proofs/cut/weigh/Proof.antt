@@ -7,7 +7,7 @@ use lib.ListN.{length, getD, length-map}
 use Rattle.book.specs.Book.{noAllocation}
 use Rattle.book.specs.Words.{acceptedIn}
 use Rattle.book.proofs.KeepsCut.{weight-at}
-use Rattle.ledger.proofs.Turns.{Written, written-none, written-more, written-all}
+use Rattle.sound.proofs.Turns.{Written, written-none, written-more, written-all}
 use Rattle.ledger.proofs.cut.weigh.Statement.{statement}
 use Rattle.ledger.proofs.cut.weigh.Tie as tie
 

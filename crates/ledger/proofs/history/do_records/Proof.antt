@@ -22,7 +22,7 @@ use contract.Running.{givenOf, tables, tablesOf}
 use types.Kit.{Given, Go, Item, Sq, Post, runs, atRet, ‵, _$_, !, move}
 use types.Part.{agg}
 use types.Run.{Below, store, forget, stop, from, lit, of-opd, bin, and-then, no-more, assigns-last, stays, again}
-use sound.WpLaws.{FmC}
+use package.sound.WpLaws.{FmC}
 use denote.Ref.{RefT, ptr, now}
 use denote.Slice.{Room, sliceVal}
 use denote.Struct.Laws.{owed}
@@ -35,22 +35,23 @@ use Rattle.book.specs.Run.{usable, recordsOf}
 use Rattle.book.specs.declared.Account.{Account}
 use Rattle.book.specs.declared.Allocation.{Allocation}
 use Rattle.book.specs.declared.Month.{Month}
-use Rattle.ledger.specs.Check.{bookFrom}
+use Rattle.sound.specs.Check.{bookFrom}
 use Rattle.ledger.specs.Inner.{Able, Steps}
 use Rattle.ledger.specs.Leaves.{askedOf}
 use Rattle.ledger.specs.Ready.{Totalled}
 use Rattle.ledger.specs.Running.{wordOf, Does}
 use Rattle.ledger.specs.declared.after.Stepped.{Stepped}
 use Rattle.ledger.proofs.Contracts.{Asked, StepOn, WriteAnswer, DoRecords}
-use Rattle.ledger.proofs.Records.{account, allocation, answer, fields, month, stepped}
+use Rattle.sound.proofs.Structs.{account, allocation, month}
+use Rattle.ledger.proofs.Records.{answer, fields, stepped}
 use Rattle.ledger.proofs.Running.{Stands, stands-first, able-next, stands-next, stands-done}
-use Rattle.ledger.proofs.Walk.Values.{Of, Fits, Struct, struct, by-value, number}
-use Rattle.ledger.proofs.Walk.Terms.{triple}
-use Rattle.ledger.proofs.Walk.Calls.{calls, held}
-use Rattle.ledger.proofs.Walk.Function.{Arguments, opened, machine, Exit}
-use Rattle.ledger.proofs.Walk.Body.{Blocks, env, cells, dies, Walk, walks, ends, frames}
-use Rattle.ledger.proofs.Walk.Locals.{at, part, count, start, reading, sets, resets, gets, reads-as}
-use Rattle.ledger.proofs.Walk.Loop.{Turn, turns, turn-of, loop-then, leaves-rest, tests}
+use Rattle.walks.proofs.Walk.Values.{Of, Fits, Struct, struct, by-value, number}
+use Rattle.walks.proofs.Walk.Terms.{triple}
+use Rattle.walks.proofs.Walk.Calls.{calls, held}
+use Rattle.walks.proofs.Walk.Function.{Arguments, opened, machine, Exit}
+use Rattle.walks.proofs.Walk.Body.{Blocks, env, cells, dies, Walk, walks, ends, frames}
+use Rattle.walks.proofs.Walk.Locals.{at, part, count, start, reading, sets, resets, gets, reads-as}
+use Rattle.walks.proofs.Walk.Loop.{Turn, turns, turn-of, loop-then, leaves-rest, tests}
 use Rattle.ledger.proofs.asked.asked.Symbol as asked-def
 use Rattle.ledger.proofs.asked.asked.Symbol.{name as #ledger·asked·asked}
 use Rattle.ledger.proofs.asked.asked.Met as asked-thm

@@ -3,8 +3,8 @@
 use contract.Running.{givenOf, tables}
 use denote.Triple.Table.{entered}
 use Rattle.book.specs.Book.{noAccount}
-use Rattle.ledger.proofs.Element.{get-meets}
-use Rattle.ledger.proofs.Records.{account}
+use Rattle.walks.proofs.Element.{get-meets}
+use Rattle.sound.proofs.Structs.{account}
 use Rattle.ledger.proofs.lent.account_at.Key.{name as #ledger·lent·account-at}
 use Rattle.ledger.proofs.lent.account_at.Statement as stated
 use Rattle.ledger.proofs.lent.account_at.Code as code

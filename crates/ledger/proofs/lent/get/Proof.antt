@@ -3,8 +3,8 @@
 use contract.Running.{givenOf, tables}
 use denote.Triple.Table.{entered}
 use Rattle.book.specs.Book.{noAllocation}
-use Rattle.ledger.proofs.Element.{get-meets}
-use Rattle.ledger.proofs.Records.{allocation}
+use Rattle.walks.proofs.Element.{get-meets}
+use Rattle.sound.proofs.Structs.{allocation}
 use Rattle.ledger.proofs.lent.get.Key.{name as #ledger·lent·get}
 use Rattle.ledger.proofs.lent.get.Statement as stated
 use Rattle.ledger.proofs.lent.get.Code as code

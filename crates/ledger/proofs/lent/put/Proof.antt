@@ -3,8 +3,8 @@
 use contract.Running.{givenOf, tables}
 use denote.Triple.Table.{entered}
 use Rattle.book.specs.Book.{noAllocation}
-use Rattle.ledger.proofs.Element.{put-meets}
-use Rattle.ledger.proofs.Records.{allocation}
+use Rattle.walks.proofs.Element.{put-meets}
+use Rattle.sound.proofs.Structs.{allocation}
 use Rattle.ledger.proofs.lent.put.Key.{name as #ledger·lent·put}
 use Rattle.ledger.proofs.lent.put.Statement as stated
 use Rattle.ledger.proofs.lent.put.Code as code

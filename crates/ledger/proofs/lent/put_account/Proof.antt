@@ -3,8 +3,8 @@
 use contract.Running.{givenOf, tables}
 use denote.Triple.Table.{entered}
 use Rattle.book.specs.Book.{noAccount}
-use Rattle.ledger.proofs.Element.{put-meets}
-use Rattle.ledger.proofs.Records.{account}
+use Rattle.walks.proofs.Element.{put-meets}
+use Rattle.sound.proofs.Structs.{account}
 use Rattle.ledger.proofs.lent.put_account.Key.{name as #ledger·lent·put-account}
 use Rattle.ledger.proofs.lent.put_account.Statement as stated
 use Rattle.ledger.proofs.lent.put_account.Code as code

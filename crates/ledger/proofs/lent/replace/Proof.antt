@@ -6,7 +6,7 @@ use native.Mathlib.Omega.{arith}
 use borrow.Author.Needs.{needs}
 use mathlib.Core.List.{_++_}
 use lib.ListN.{length, getD, set, take, drop}
-use Rattle.ledger.proofs.Storer.{stored-length, stored-suc, stored-all}
+use Rattle.walks.proofs.Storer.{stored-length, stored-suc, stored-all}
 use Rattle.ledger.proofs.lent.replace.Statement.{statement}
 use Rattle.ledger.proofs.lent.replace.Tie as tie
 

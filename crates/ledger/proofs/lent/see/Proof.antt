@@ -26,24 +26,27 @@ use Rattle.book.specs.Book.{noAccount, noAllocation}
 use Rattle.book.specs.declared.Account.{Account}
 use Rattle.book.specs.declared.Allocation.{Allocation}
 use Rattle.book.specs.declared.Month.{Month}
-use Rattle.ledger.specs.Judge.{slot, placeOf, judgedBy, seenIn}
+use Rattle.reasons.specs.Parts.{slot}
+use Rattle.gate.specs.Gate.{placeOf}
+use Rattle.ledger.specs.Judge.{judgedBy, seenIn}
 use Rattle.ledger.specs.declared.seen.Seen.{Seen}
 use Rattle.ledger.proofs.Contracts.{Place, Get, SlotOf, AccountAt, JudgedBy, Pack, See}
-use Rattle.ledger.proofs.Records.{account, allocation, fields, month, seen}
-use Rattle.ledger.proofs.Walk.Values.{Of, Fits, Struct, struct, by-value, number}
-use Rattle.ledger.proofs.Walk.Terms.{triple}
-use Rattle.ledger.proofs.Walk.Calls.{calls, held}
-use Rattle.ledger.proofs.Walk.Body.{Blocks, Walk, walks, ends, frames}
-use Rattle.ledger.proofs.Walk.Locals.{part, reading, gets, regets}
+use Rattle.sound.proofs.Structs.{account, allocation, month}
+use Rattle.ledger.proofs.Records.{fields, seen}
+use Rattle.walks.proofs.Walk.Values.{Of, Fits, Struct, struct, by-value, number}
+use Rattle.walks.proofs.Walk.Terms.{triple}
+use Rattle.walks.proofs.Walk.Calls.{calls, held}
+use Rattle.walks.proofs.Walk.Body.{Blocks, Walk, walks, ends, frames}
+use Rattle.walks.proofs.Walk.Locals.{part, reading, gets, regets}
 use Rattle.ledger.proofs.seen.place.Symbol as place-def
 use Rattle.ledger.proofs.seen.place.Symbol.{name as #ledger·seen·place}
 use Rattle.ledger.proofs.seen.place.Met as place-thm
 use Rattle.ledger.proofs.lent.get.Symbol as get-def
 use Rattle.ledger.proofs.lent.get.Symbol.{name as #ledger·lent·get}
 use Rattle.ledger.proofs.lent.get.Met as get-thm
-use Rattle.ledger.proofs.seen.slot_of.Symbol as slot-of-def
-use Rattle.ledger.proofs.seen.slot_of.Symbol.{name as #ledger·seen·slot-of}
-use Rattle.ledger.proofs.seen.slot_of.Met as slot-of-thm
+use Rattle.reasons.proofs.slot_of.Symbol as slot-of-def
+use Rattle.reasons.proofs.slot_of.Symbol.{name as #reasons·slot-of}
+use Rattle.reasons.proofs.slot_of.Met as slot-of-thm
 use Rattle.ledger.proofs.lent.account_at.Symbol as account-at-def
 use Rattle.ledger.proofs.lent.account_at.Symbol.{name as #ledger·lent·account-at}
 use Rattle.ledger.proofs.lent.account_at.Met as account-at-thm
@@ -67,7 +70,7 @@ packed m accounts ledger f i j k n p here first second judged r e-i e-here e-j e
 below : {D : Type 0} (i n : ℕ) (xs : List D) → length xs ≡ n → i < n → i < length xs
 below i n xs e l = omega arith
 
-module _ {M : Type 1} (𝓤 : URA M) (H : Heap 𝓤) (A : Atoms 𝓤) (W : Given 𝓤 H A) (C : Calls 𝓤 H) (Λ : Loops 𝓤 H) (fm : FmC 𝓤 H (W .laws) C) (known-place : Triple 𝓤 (C #ledger·seen·place) (triple 𝓤 H A Place)) (known-get : Triple 𝓤 (C #ledger·lent·get) (triple 𝓤 H A Get)) (known-slot-of : Triple 𝓤 (C #ledger·seen·slot-of) (triple 𝓤 H A SlotOf)) (known-account-at : Triple 𝓤 (C #ledger·lent·account-at) (triple 𝓤 H A AccountAt)) (known-judged-by : Triple 𝓤 (C #ledger·seen·judged-by) (triple 𝓤 H A JudgedBy)) (known-pack : Triple 𝓤 (C #ledger·seen·pack) (triple 𝓤 H A Pack)) where
+module _ {M : Type 1} (𝓤 : URA M) (H : Heap 𝓤) (A : Atoms 𝓤) (W : Given 𝓤 H A) (C : Calls 𝓤 H) (Λ : Loops 𝓤 H) (fm : FmC 𝓤 H (W .laws) C) (known-place : Triple 𝓤 (C #ledger·seen·place) (triple 𝓤 H A Place)) (known-get : Triple 𝓤 (C #ledger·lent·get) (triple 𝓤 H A Get)) (known-slot-of : Triple 𝓤 (C #reasons·slot-of) (triple 𝓤 H A SlotOf)) (known-account-at : Triple 𝓤 (C #ledger·lent·account-at) (triple 𝓤 H A AccountAt)) (known-judged-by : Triple 𝓤 (C #ledger·seen·judged-by) (triple 𝓤 H A JudgedBy)) (known-pack : Triple 𝓤 (C #ledger·seen·pack) (triple 𝓤 H A Pack)) where
   typed : (S : Struct) (x : Of (struct S)) → Fits (struct S) x → Holds (hasTy (by-value S) (struct S .val x)) × WT (struct S .val x)
   typed S x is = struct S .lawful 𝓤 H A W .typed x _ is .0
 
@@ -105,7 +108,7 @@ see-spec 𝓤 H 𝓜 𝓖 𝓡 =
     (see-meets 𝓤 H (𝓖 .A) (givenOf 𝓤 H 𝓜 𝓖) (tables 𝓤 H 𝓜 𝓡 code.env .C) (tables 𝓤 H 𝓜 𝓡 code.env .Λ) (frames 𝓤 H 𝓜 𝓖 𝓡 code.env)
     (cited 𝓤 H _ 𝓜 𝓡 code.env #ledger·seen·place place-def.routine code.calls-ledger·seen·place (place-thm.met 𝓤 H 𝓜 𝓖 𝓡))
     (cited 𝓤 H _ 𝓜 𝓡 code.env #ledger·lent·get get-def.routine code.calls-ledger·lent·get (get-thm.met 𝓤 H 𝓜 𝓖 𝓡))
-    (cited 𝓤 H _ 𝓜 𝓡 code.env #ledger·seen·slot-of slot-of-def.routine code.calls-ledger·seen·slot-of (slot-of-thm.met 𝓤 H 𝓜 𝓖 𝓡))
+    (cited 𝓤 H _ 𝓜 𝓡 code.env #reasons·slot-of slot-of-def.routine code.calls-reasons·slot-of (slot-of-thm.met 𝓤 H 𝓜 𝓖 𝓡))
     (cited 𝓤 H _ 𝓜 𝓡 code.env #ledger·lent·account-at account-at-def.routine code.calls-ledger·lent·account-at (account-at-thm.met 𝓤 H 𝓜 𝓖 𝓡))
     (cited 𝓤 H _ 𝓜 𝓡 code.env #ledger·seen·judged-by judged-by-def.routine code.calls-ledger·seen·judged-by (judged-by-thm.met 𝓤 H 𝓜 𝓖 𝓡))
     (cited 𝓤 H _ 𝓜 𝓡 code.env #ledger·seen·pack pack-def.routine code.calls-ledger·seen·pack (pack-thm.met 𝓤 H 𝓜 𝓖 𝓡)))

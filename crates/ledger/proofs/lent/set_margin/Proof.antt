@@ -3,9 +3,10 @@
 use contract.Running.{givenOf, tables}
 use denote.Triple.Table.{entered, cited}
 use Rattle.ledger.specs.After.{marginSetIn}
-use Rattle.ledger.proofs.Records.{account, fields, verdict}
-use Rattle.ledger.proofs.Setter.{set-meets}
-use Rattle.ledger.proofs.Walk.Body.{frames}
+use Rattle.sound.proofs.Structs.{account}
+use Rattle.ledger.proofs.Records.{fields, verdict}
+use Rattle.walks.proofs.Setter.{set-meets}
+use Rattle.walks.proofs.Walk.Body.{frames}
 use Rattle.ledger.proofs.after.with_margin.Symbol as with-margin-def
 use Rattle.ledger.proofs.after.with_margin.Symbol.{name as #ledger·after·with-margin}
 use Rattle.ledger.proofs.after.with_margin.Met as with-margin-thm

@@ -3,9 +3,10 @@
 use contract.Running.{givenOf, tables}
 use denote.Triple.Table.{entered, cited}
 use Rattle.ledger.specs.After.{requirementIn}
-use Rattle.ledger.proofs.Records.{account, fields, verdict}
-use Rattle.ledger.proofs.Setter.{set-meets}
-use Rattle.ledger.proofs.Walk.Body.{frames}
+use Rattle.sound.proofs.Structs.{account}
+use Rattle.ledger.proofs.Records.{fields, verdict}
+use Rattle.walks.proofs.Setter.{set-meets}
+use Rattle.walks.proofs.Walk.Body.{frames}
 use Rattle.ledger.proofs.after.with_requirement.Symbol as with-requirement-def
 use Rattle.ledger.proofs.after.with_requirement.Symbol.{name as #ledger·after·with-requirement}
 use Rattle.ledger.proofs.after.with_requirement.Met as with-requirement-thm

@@ -3,9 +3,9 @@
 use contract.Running.{givenOf, tables, tablesOf}
 use denote.Triple.Table.{entered, cited}
 use Rattle.book.specs.Book.{noAllocation}
-use Rattle.ledger.proofs.Records.{allocation}
-use Rattle.ledger.proofs.Storer.{store-meets}
-use Rattle.ledger.proofs.Walk.Body.{frames}
+use Rattle.sound.proofs.Structs.{allocation}
+use Rattle.walks.proofs.Storer.{store-meets}
+use Rattle.walks.proofs.Walk.Body.{frames}
 use Rattle.ledger.proofs.lent.record_at.Symbol as record-at-def
 use Rattle.ledger.proofs.lent.record_at.Symbol.{name as #ledger·lent·record-at}
 use Rattle.ledger.proofs.lent.record_at.Met as record-at-thm

@@ -27,13 +27,14 @@ use Rattle.book.specs.declared.Account.{Account}
 use Rattle.ledger.specs.After.{registeredIn, requirementIn, marginSetIn, accountAfter}
 use Rattle.ledger.specs.declared.judge.Verdict.{Verdict}
 use Rattle.ledger.proofs.Contracts.{AccountAt, WithRoles, SetRequirement, SetMargin, PutAccount, WriteAccount}
-use Rattle.ledger.proofs.Records.{account, fields, verdict}
-use Rattle.ledger.proofs.Walk.Values.{Fits, struct, by-value, number}
-use Rattle.ledger.proofs.Walk.Terms.{triple}
-use Rattle.ledger.proofs.Walk.Calls.{calls, owned}
-use Rattle.ledger.proofs.Walk.Body.{Blocks, Walk, walks, ends, frames}
-use Rattle.ledger.proofs.Walk.Locals.{at, count, start, reading, sets, resets, gets, regets}
-use Rattle.ledger.proofs.Walk.Memory.{local-out, local-in}
+use Rattle.sound.proofs.Structs.{account}
+use Rattle.ledger.proofs.Records.{fields, verdict}
+use Rattle.walks.proofs.Walk.Values.{Fits, struct, by-value, number}
+use Rattle.walks.proofs.Walk.Terms.{triple}
+use Rattle.walks.proofs.Walk.Calls.{calls, owned}
+use Rattle.walks.proofs.Walk.Body.{Blocks, Walk, walks, ends, frames}
+use Rattle.walks.proofs.Walk.Locals.{at, count, start, reading, sets, resets, gets, regets}
+use Rattle.walks.proofs.Walk.Memory.{local-out, local-in}
 use Rattle.ledger.proofs.lent.account_at.Symbol as account-at-def
 use Rattle.ledger.proofs.lent.account_at.Symbol.{name as #ledger·lent·account-at}
 use Rattle.ledger.proofs.lent.account_at.Met as account-at-thm

@@ -29,23 +29,26 @@ use Rattle.book.specs.Book.{noAccount}
 use Rattle.book.specs.declared.Account.{Account}
 use Rattle.book.specs.declared.Allocation.{Allocation}
 use Rattle.book.specs.declared.Month.{Month}
-use Rattle.ledger.specs.Judge.{slot, placeOf, seenIn, verdictIn}
+use Rattle.reasons.specs.Parts.{slot}
+use Rattle.gate.specs.Gate.{placeOf}
+use Rattle.ledger.specs.Judge.{seenIn, verdictIn}
 use Rattle.ledger.specs.After.{did, accountAfter, allocationAfter, monthAfter, levelsAfter, totalsAfter, answerIn}
 use Rattle.ledger.specs.Ready.{Judgeable, CreditDone, TotalsMove, MonthMove, CutFits}
-use Rattle.ledger.specs.Check.{bookFrom}
+use Rattle.sound.specs.Check.{bookFrom}
 use Rattle.ledger.specs.Leaves.{verdictOn, recutAfter, leaves}
 use Rattle.ledger.specs.Inner.{oldOf, newOf, putOf, Able, RecutTotals, Steps}
 use Rattle.ledger.specs.declared.after.Stepped.{Stepped}
 use Rattle.ledger.specs.declared.judge.Verdict.{Verdict}
 use Rattle.ledger.specs.declared.seen.Seen.{Seen}
 use Rattle.ledger.proofs.Contracts.{See, Judge, AllocationAfter, SlotOf, WriteAccount, MoveTotals, Place, Put, Credit, Recut, Finish, StepOn}
-use Rattle.ledger.proofs.Records.{account, allocation, fields, month, seen, stepped, verdict}
-use Rattle.ledger.proofs.Walk.Values.{Of, Fits, Struct, struct, by-value, number}
-use Rattle.ledger.proofs.Walk.Terms.{triple}
-use Rattle.ledger.proofs.Walk.Calls.{calls, owned}
-use Rattle.ledger.proofs.Walk.Body.{Blocks, Walk, walks, ends, frames}
-use Rattle.ledger.proofs.Walk.Parts.{From}
-use Rattle.ledger.proofs.Walk.Locals.{at, part, count, start, reading, sets, gets, regets, reads-as}
+use Rattle.sound.proofs.Structs.{account, allocation, month}
+use Rattle.ledger.proofs.Records.{fields, seen, stepped, verdict}
+use Rattle.walks.proofs.Walk.Values.{Of, Fits, Struct, struct, by-value, number}
+use Rattle.walks.proofs.Walk.Terms.{triple}
+use Rattle.walks.proofs.Walk.Calls.{calls, owned}
+use Rattle.walks.proofs.Walk.Body.{Blocks, Walk, walks, ends, frames}
+use Rattle.walks.proofs.Walk.Parts.{From}
+use Rattle.walks.proofs.Walk.Locals.{at, part, count, start, reading, sets, gets, regets, reads-as}
 use Rattle.ledger.proofs.lent.see.Symbol as see-def
 use Rattle.ledger.proofs.lent.see.Symbol.{name as #ledger·lent·see}
 use Rattle.ledger.proofs.lent.see.Met as see-thm
@@ -55,9 +58,9 @@ use Rattle.ledger.proofs.judge.judge.Met as judge-thm
 use Rattle.ledger.proofs.after.allocation_after.Symbol as allocation-after-def
 use Rattle.ledger.proofs.after.allocation_after.Symbol.{name as #ledger·after·allocation-after}
 use Rattle.ledger.proofs.after.allocation_after.Met as allocation-after-thm
-use Rattle.ledger.proofs.seen.slot_of.Symbol as slot-of-def
-use Rattle.ledger.proofs.seen.slot_of.Symbol.{name as #ledger·seen·slot-of}
-use Rattle.ledger.proofs.seen.slot_of.Met as slot-of-thm
+use Rattle.reasons.proofs.slot_of.Symbol as slot-of-def
+use Rattle.reasons.proofs.slot_of.Symbol.{name as #reasons·slot-of}
+use Rattle.reasons.proofs.slot_of.Met as slot-of-thm
 use Rattle.ledger.proofs.lent.write_account.Symbol as write-account-def
 use Rattle.ledger.proofs.lent.write_account.Symbol.{name as #ledger·lent·write-account}
 use Rattle.ledger.proofs.lent.write_account.Met as write-account-thm
@@ -140,7 +143,7 @@ module _ (m : Month) (accounts : List Account) (lv : List ℕ) (ledger : List Al
               (subst (λ (x : List ℕ). RecutTotals f v x ts″ ledger′) (e-ts ∙ (ap (λ (x : Allocation). totalsAfter x new ts) here-is ∙ ap (λ (x : Allocation). totalsAfter (oldOf (bookFrom m accounts lv ledger) f) x ts) new-is)) (e-cut .1));
         }
 
-module _ {M : Type 1} (𝓤 : URA M) (H : Heap 𝓤) (A : Atoms 𝓤) (W : Given 𝓤 H A) (C : Calls 𝓤 H) (Λ : Loops 𝓤 H) (fm : FmC 𝓤 H (W .laws) C) (known-see : Triple 𝓤 (C #ledger·lent·see) (triple 𝓤 H A See)) (known-judge : Triple 𝓤 (C #ledger·judge·judge) (triple 𝓤 H A Judge)) (known-allocation-after : Triple 𝓤 (C #ledger·after·allocation-after) (triple 𝓤 H A AllocationAfter)) (known-slot-of : Triple 𝓤 (C #ledger·seen·slot-of) (triple 𝓤 H A SlotOf)) (known-write-account : Triple 𝓤 (C #ledger·lent·write-account) (triple 𝓤 H A WriteAccount)) (known-move-totals : Triple 𝓤 (C #ledger·after·move-totals) (triple 𝓤 H A MoveTotals)) (known-place : Triple 𝓤 (C #ledger·seen·place) (triple 𝓤 H A Place)) (known-put : Triple 𝓤 (C #ledger·lent·put) (triple 𝓤 H A Put)) (known-credit : Triple 𝓤 (C #ledger·levels·credit) (triple 𝓤 H A Credit)) (known-recut : Triple 𝓤 (C #ledger·lent·recut) (triple 𝓤 H A Recut)) (known-finish : Triple 𝓤 (C #ledger·after·finish) (triple 𝓤 H A Finish)) where
+module _ {M : Type 1} (𝓤 : URA M) (H : Heap 𝓤) (A : Atoms 𝓤) (W : Given 𝓤 H A) (C : Calls 𝓤 H) (Λ : Loops 𝓤 H) (fm : FmC 𝓤 H (W .laws) C) (known-see : Triple 𝓤 (C #ledger·lent·see) (triple 𝓤 H A See)) (known-judge : Triple 𝓤 (C #ledger·judge·judge) (triple 𝓤 H A Judge)) (known-allocation-after : Triple 𝓤 (C #ledger·after·allocation-after) (triple 𝓤 H A AllocationAfter)) (known-slot-of : Triple 𝓤 (C #reasons·slot-of) (triple 𝓤 H A SlotOf)) (known-write-account : Triple 𝓤 (C #ledger·lent·write-account) (triple 𝓤 H A WriteAccount)) (known-move-totals : Triple 𝓤 (C #ledger·after·move-totals) (triple 𝓤 H A MoveTotals)) (known-place : Triple 𝓤 (C #ledger·seen·place) (triple 𝓤 H A Place)) (known-put : Triple 𝓤 (C #ledger·lent·put) (triple 𝓤 H A Put)) (known-credit : Triple 𝓤 (C #ledger·levels·credit) (triple 𝓤 H A Credit)) (known-recut : Triple 𝓤 (C #ledger·lent·recut) (triple 𝓤 H A Recut)) (known-finish : Triple 𝓤 (C #ledger·after·finish) (triple 𝓤 H A Finish)) where
   typed : (S : Struct) (x : Of (struct S)) → Fits (struct S) x → Holds (hasTy (by-value S) (struct S .val x)) × WT (struct S .val x)
   typed S x is = struct S .lawful 𝓤 H A W .typed x _ is .0
 
@@ -239,7 +242,7 @@ step-on-spec 𝓤 H 𝓜 𝓖 𝓡 =
     (cited 𝓤 H _ 𝓜 𝓡 code.env #ledger·lent·see see-def.routine code.calls-ledger·lent·see (see-thm.met 𝓤 H 𝓜 𝓖 𝓡))
     (cited 𝓤 H _ 𝓜 𝓡 code.env #ledger·judge·judge judge-def.routine code.calls-ledger·judge·judge (judge-thm.met 𝓤 H 𝓜 𝓖 𝓡))
     (cited 𝓤 H _ 𝓜 𝓡 code.env #ledger·after·allocation-after allocation-after-def.routine code.calls-ledger·after·allocation-after (allocation-after-thm.met 𝓤 H 𝓜 𝓖 𝓡))
-    (cited 𝓤 H _ 𝓜 𝓡 code.env #ledger·seen·slot-of slot-of-def.routine code.calls-ledger·seen·slot-of (slot-of-thm.met 𝓤 H 𝓜 𝓖 𝓡))
+    (cited 𝓤 H _ 𝓜 𝓡 code.env #reasons·slot-of slot-of-def.routine code.calls-reasons·slot-of (slot-of-thm.met 𝓤 H 𝓜 𝓖 𝓡))
     (cited 𝓤 H _ 𝓜 𝓡 code.env #ledger·lent·write-account write-account-def.routine code.calls-ledger·lent·write-account (write-account-thm.met 𝓤 H 𝓜 𝓖 𝓡))
     (cited 𝓤 H _ 𝓜 𝓡 code.env #ledger·after·move-totals move-totals-def.routine code.calls-ledger·after·move-totals (move-totals-thm.met 𝓤 H 𝓜 𝓖 𝓡))
     (cited 𝓤 H _ 𝓜 𝓡 code.env #ledger·seen·place place-def.routine code.calls-ledger·seen·place (place-thm.met 𝓤 H 𝓜 𝓖 𝓡))

@@ -1,7 +1,0 @@
--- `gate::reversal` meets its contract: its calls give reasons 2, 4, 5, 6, 8 and 9, in the definition's order. Assumes nothing.
-use mathlib.Core.Path.{refl}
-use Rattle.ledger.proofs.gate.reversal.Statement.{statement}
-use Rattle.ledger.proofs.gate.reversal.Tie as tie
-
-pub reversal-spec : {M : Type 1} → statement M
-reversal-spec = tie.close (tie.spec (λ _ _. refl) (λ _ _. tt) (λ _ _. tt) (λ _ _. tt) (λ _ _. tt) (λ _ _. tt) (λ _ _. tt) (λ c. cc))

@@ -1,8 +1,0 @@
--- `limits::is_given` meets its contract: its tests are the definition's. Assumes nothing.
-use Rattle.ledger.specs.Check.{givenFits}
-use Rattle.ledger.proofs.limits.is_given.Statement.{statement}
-use Rattle.ledger.proofs.limits.is_given.Tie as tie
-
-pub is-given-spec : {M : Type 1} → statement M
-unfolding givenFits
-is-given-spec = tie.close (tie.spec (λ _ _. tt) (λ _ _. tt) (λ _ _. tt) (λ _ _. tt) (λ _ _. tt) (λ _ _. tt) (λ _ _. tt) (λ c. cc))

@@ -1,8 +1,0 @@
--- `limits::is_no_allocation` meets its contract: its tests are the definition's. Assumes nothing.
-use Rattle.book.specs.Sound.{isNoAllocation}
-use Rattle.ledger.proofs.limits.is_no_allocation.Statement.{statement}
-use Rattle.ledger.proofs.limits.is_no_allocation.Tie as tie
-
-pub is-no-allocation-spec : {M : Type 1} → statement M
-unfolding isNoAllocation
-is-no-allocation-spec = tie.close (tie.spec (λ _ _. tt) (λ _ _. tt) (λ _ _. tt) (λ _ _. tt) (λ c. cc))

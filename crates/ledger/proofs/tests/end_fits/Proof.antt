@@ -1,9 +1,0 @@
--- `tests::end_fits` meets its contract: the range is a bound on the magnitude. Assumes nothing.
-use mathlib.Core.Path.{_∙_}
-use Rattle.book.specs.Book.{mostEnd}
-use Rattle.ledger.proofs.Ranges.{within-is}
-use Rattle.ledger.proofs.tests.end_fits.Statement.{statement}
-use Rattle.ledger.proofs.tests.end_fits.Tie as tie
-
-pub end-fits-spec : {M : Type 1} → statement M
-end-fits-spec = tie.close (tie.spec (λ _ _. tt) (λ c. c .amount-in .ensures ∙ within-is mostEnd (c .before .args .amount .0)))

@@ -1,8 +1,0 @@
--- `tests::refused_if` meets its contract: the definition goes by the same test. Assumes nothing.
-use Rattle.ledger.specs.Gate.{when}
-use Rattle.ledger.proofs.tests.refused_if.Statement.{statement}
-use Rattle.ledger.proofs.tests.refused_if.Tie as tie
-
-pub refused-if-spec : {M : Type 1} → statement M
-unfolding when
-refused-if-spec = tie.close (tie.spec (λ c. cc) (λ c. cc))

@@ -1,0 +1,64 @@
+-- `printout::settled::print_figures` is safe and ends: a turn for each participant that has figures. Assumes nothing.
+use mathlib.Core.Path.{_≡_}
+use Prim.Native.Nat.{_-_, _≤_}
+use lib.ListN.{length}
+use borrow.Author.Needs.{needs}
+use Rattle.printout.proofs.settled.print_figures.Statement.{statement}
+use Rattle.printout.proofs.settled.print_figures.Tie as tie
+
+abbrev Inv-loop : tie.InvT-loop
+Inv-loop out₀ s n now₀ i₀ out now i = (i ≤ n) × (length out ≡ length out₀)
+
+abbrev μ-loop : tie.MeasureT-loop
+μ-loop out₀ s n now₀ i₀ out now i = n - i
+
+cast-at-most : tie.Need-cast-at-most Inv-loop μ-loop
+cast-at-most c = search needs
+
+at-most-requires : tie.Need-at-most-requires Inv-loop μ-loop
+at-most-requires c κs = search needs
+
+loop-holds : tie.Need-loop-holds Inv-loop μ-loop
+loop-holds c = search needs
+
+mul-print-participant : tie.Need-mul-print-participant Inv-loop μ-loop
+mul-print-participant c = search needs
+
+element-copy-out-print-participant : tie.Need-element-copy-out-print-participant Inv-loop μ-loop
+element-copy-out-print-participant c = search needs
+
+print-participant-requires : tie.Need-print-participant-requires Inv-loop μ-loop
+print-participant-requires c κs = search needs
+
+add-i : tie.Need-add-i Inv-loop μ-loop
+add-i c = search needs
+
+loop-less : tie.Need-loop-less Inv-loop μ-loop
+loop-less c = search needs
+
+loop-again : tie.Need-loop-again Inv-loop μ-loop
+loop-again c = search needs
+
+same-length : tie.Need-same-length Inv-loop μ-loop
+same-length c = search needs
+
+returns : tie.Need-returns Inv-loop μ-loop
+returns c = search needs
+
+pub print-figures-spec : {M : Type 1} → statement M
+print-figures-spec =
+    tie.close
+    (tie.spec
+    Inv-loop
+    μ-loop
+    cast-at-most
+    at-most-requires
+    loop-holds
+    mul-print-participant
+    element-copy-out-print-participant
+    print-participant-requires
+    add-i
+    loop-less
+    loop-again
+    same-length
+    returns)

@@ -1,0 +1,73 @@
+// Tables copied out of lent runs of records.
+ghost use mathlib.Core.Path.{_≡_};
+ghost use mathlib.Core.Bool.{cond};
+ghost use mathlib.Core.List.{_++_};
+ghost use Prim.Native.Nat.{_-_, _≤_, _<_};
+ghost use lib.Dec.{ltb};
+ghost use lib.ListN.{length, set, take, replicate};
+ghost use Rattle.book.specs.Book.{noAccount, noAllocation};
+use book::Account;
+use book::Allocation;
+use book::fresh_accounts;
+use book::fresh_ledger;
+
+// The array with one record more.
+fn with_record(t: [Allocation; 256], i: usize, l: Allocation) -> [Allocation; 256]
+    requires { ⌜ i < 256 ⌝ }
+    ensures { λ r. ⌜ r ≡ set t i l ⌝ }
+{
+    let mut u = t;
+    u[i] = l;
+    u
+}
+
+fn with_account(t: [Account; 32], i: usize, a: Account) -> [Account; 32]
+    requires { ⌜ i < 32 ⌝ }
+    ensures { λ r. ⌜ r ≡ set t i a ⌝ }
+{
+    let mut u = t;
+    u[i] = a;
+    u
+}
+
+// An array of the first n records; the others are empty.
+pub fn load(ledger: &[Allocation], n: usize) -> [Allocation; 256]
+    requires { ⌜ (n ≤ length (now ledger)) × (n ≤ 256) ⌝ }
+    ensures { λ r. ⌜ r ≡ take n (now (ledger .entry)) ++ replicate (256 - n) noAllocation ⌝ }
+{
+    let mut t = fresh_ledger();
+    let mut i: usize = 0;
+    while i < n {
+        t = with_record(t, i, ledger[i]);
+        i += 1;
+    }
+    t
+}
+
+// The same of the first n accounts.
+pub fn load_accounts(accounts: &[Account], n: usize) -> [Account; 32]
+    requires { ⌜ (n ≤ length (now accounts)) × (n ≤ 32) ⌝ }
+    ensures { λ r. ⌜ r ≡ take n (now (accounts .entry)) ++ replicate (32 - n) noAccount ⌝ }
+{
+    let mut t = fresh_accounts();
+    let mut i: usize = 0;
+    while i < n {
+        t = with_account(t, i, accounts[i]);
+        i += 1;
+    }
+    t
+}
+
+// How many records an array of 256 takes of so many.
+fn room_for(n: usize) -> usize
+    ensures { λ r. ⌜ r ≡ cond (ltb n 256) n 256 ⌝ }
+{
+    if n < 256 { n } else { 256 }
+}
+
+// The first 256 records; where there are fewer, the others are empty.
+pub fn records(ledger: &[Allocation]) -> [Allocation; 256]
+    ensures { λ r. ⌜ r ≡ take 256 (now (ledger .entry)) ++ replicate (256 - length (now (ledger .entry))) noAllocation ⌝ }
+{
+    load(ledger, room_for(ledger.len()))
+}
