@@ -41,11 +41,30 @@ pub fn is_done(v: Verdict, f: Fields, kind: u8) -> bool
     both(v.reason == 0, f.kind == kind)
 }
 
+// An account field by field: a choice between two such is made in registers, not in memory.
+fn by_field(a: Account) -> Account
+    ensures { λ r. ⌜ r ≡ a ⌝ }
+{
+    let requirement = a.requirement;
+    let figure = a.figure;
+    let net = a.net;
+    Account {
+        roles: a.roles,
+        requirement,
+        figure,
+        net,
+    }
+}
+
 // One account if the step is done, and of that kind; else another.
 fn if_done(v: Verdict, f: Fields, kind: u8, new: Account, old: Account) -> Account
     ensures { λ r. ⌜ r ≡ cond (did v f kind) new old ⌝ }
 {
-    if is_done(v, f, kind) { new } else { old }
+    if is_done(v, f, kind) {
+        by_field(new)
+    } else {
+        by_field(old)
+    }
 }
 
 // REGISTER sets A's roles.

@@ -101,16 +101,9 @@ pub fn store(ledger: &mut [Allocation], t: [Allocation; 256])
 {
     let mut i: usize = 0;
     while i < 256 {
-        ledger[i] = record_at(t, i);
+        ledger[i] = t[i];
         i += 1;
     }
-}
-
-fn record_at(t: [Allocation; 256], i: usize) -> Allocation
-    requires { ⌜ i < 256 ⌝ }
-    ensures { λ r. ⌜ r ≡ getD t i noAllocation ⌝ }
-{
-    t[i]
 }
 
 // The table of totals, written anew.

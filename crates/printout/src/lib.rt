@@ -7,6 +7,7 @@ mod page; // page.rt: lines on their way to standard output
 mod settled; // settled.rt: the lines of settlement
 
 ghost use Prim.Native.Nat.{_≤_, _<_};
+ghost use lib.ListN.{length};
 pub use settled::figures_of;
 
 // Records are run in pieces of so many bytes, of which each record has 24.
@@ -41,7 +42,9 @@ fn print_pieces(
     levels: &mut [u32],
     answers: &mut [u64],
     out: &mut [u8],
-) {
+)
+    requires { ⌜ 256 ≤ length (now out) ⌝ }
+{
     let mut book = kept::fresh();
     let mut page = page::start();
     let mut left = MOST_PIECES;
@@ -68,7 +71,9 @@ fn end_of(length: usize, from: usize) -> usize
 }
 
 // A month in memory, piece by piece.
-fn print_parts(history: &[u8], levels: &mut [u32], answers: &mut [u64], out: &mut [u8]) {
+fn print_parts(history: &[u8], levels: &mut [u32], answers: &mut [u64], out: &mut [u8])
+    requires { ⌜ 256 ≤ length (now out) ⌝ }
+{
     let mut book = kept::fresh();
     let mut page = page::start();
     let mut from: usize = 0;

@@ -1,6 +1,12 @@
-// Lines on their way to standard output: they gather in a lent buffer, which is written when it has
-// no room for another, and at the end.
-ghost use Prim.Native.Nat.{_^_, _≤_};
+// Lines on their way to standard output: they gather in a lent buffer, the page, which is written
+// when it has no room for another, and at the end. What stands on the page is stated; that it is
+// written is what no contract can say.
+ghost use mathlib.Core.Path.{_≡_};
+ghost use Prim.Native.Nat.{_^_, _≤_, min};
+ghost use lib.ListN.{length};
+ghost use Rattle.ledger.specs.Running.{reasonIn, numberIn};
+ghost use Rattle.text.specs.Lines.{answerLine};
+ghost use Rattle.printout.specs.Page.{startOf, withLine, withAnswers, Holds};
 use ledger::answer_in;
 use libc::STDOUT_FILENO;
 
@@ -10,7 +16,9 @@ pub struct Page {
     pub going: bool,
 }
 
-pub fn start() -> Page {
+pub fn start() -> Page
+    ensures { λ r. ⌜ r .used ≡ 0 ⌝ }
+{
     Page {
         used: 0,
         going: true,
@@ -19,15 +27,20 @@ pub fn start() -> Page {
 
 // A number, or the limit where that is less.
 pub fn at_most(n: usize, limit: usize) -> usize
-    ensures { λ r. ⌜ r ≤ limit ⌝ }
+    ensures { λ r. ⌜ (r ≤ limit) × (r ≡ min n limit) ⌝ }
 {
     if n < limit { n } else { limit }
 }
 
-// Writes what is gathered; nothing, once a write has failed.
-pub fn flush(out: &[u8], page: Page) -> Page {
+// Writes what is gathered, and starts the page anew; once a write has failed nothing is written.
+pub fn flush(out: &[u8], page: Page) -> Page
+    ensures { λ r. ⌜ r .used ≡ 0 ⌝ }
+{
     if !page.going {
-        return page;
+        return Page {
+            used: 0,
+            going: false,
+        };
     }
     let used = at_most(page.used, out.len());
     let going = io::write_all(STDOUT_FILENO, &out[0..used]);
@@ -35,9 +48,10 @@ pub fn flush(out: &[u8], page: Page) -> Page {
 }
 
 // Room for so many bytes, by writing what is gathered where it is in the way.
-pub fn with_room(out: &[u8], page: Page, room: usize) -> Page {
-    let used = at_most(page.used, out.len());
-    if room <= out.len() - used {
+pub fn with_room(out: &[u8], page: Page, room: usize) -> Page
+    ensures { λ r. ⌜ r .used ≡ startOf room (record { bytes = now (out .entry); used = page .used }) ⌝ }
+{
+    if text::has_room(out.len(), page.used, room) {
         page
     } else {
         flush(out, page)
@@ -45,7 +59,10 @@ pub fn with_room(out: &[u8], page: Page, room: usize) -> Page {
 }
 
 // The line of one record: its place from 1, and its answer in a word.
-fn print_answer(out: &mut [u8], page: Page, place: u64, word: u64) -> Page {
+fn print_answer(out: &mut [u8], page: Page, place: u64, word: u64) -> Page
+    requires { ⌜ 64 ≤ length (now out) ⌝ }
+    ensures { λ r. ⌜ Holds (withLine 64 (answerLine place (reasonIn word) (numberIn word)) (record { bytes = now (out .entry); used = page .used })) (now (out .exit)) (r .used) ⌝ }
+{
     let ready = with_room(&*out, page, text::ANSWER_ROOM);
     let answer = answer_in(word);
     let used = text::answer_line(out, ready.used, place, answer.reason, answer.number);
@@ -55,7 +72,7 @@ fn print_answer(out: &mut [u8], page: Page, place: u64, word: u64) -> Page {
     }
 }
 
-// The lines of the first records of a piece, `before` of which came in the pieces before it.
+// The lines of the first records of a piece, so many records having come before it.
 pub fn print_answers(
     out: &mut [u8],
     page: Page,
@@ -63,7 +80,8 @@ pub fn print_answers(
     records: usize,
     before: u64,
 ) -> Page
-    requires { ⌜ before ≤ 2 ^ 62 ⌝ }
+    requires { ⌜ (64 ≤ length (now out)) × (before ≤ 2 ^ 62) ⌝ }
+    ensures { λ r. ⌜ Holds (withAnswers before (now (answers .entry)) (min records (length (now (answers .entry)))) (record { bytes = now (out .entry); used = page .used })) (now (out .exit)) (r .used) ⌝ }
 {
     let n = at_most(records, answers.len());
     let mut now = page;

@@ -1,6 +1,9 @@
 // The lines of settlement.
 ghost use mathlib.Core.Path.{_≡_};
-ghost use mathlib.Core.List.{[], _∷_};
+ghost use Prim.Native.Nat.{_≤_, min};
+ghost use lib.ListN.{length};
+ghost use Rattle.text.specs.Lines.{figuresLine, refusalLine};
+ghost use Rattle.printout.specs.Page.{withLine, numbersOf, withFigures, withSettlement, Holds};
 use crate::page::Page;
 use crate::page::at_most;
 use crate::page::flush;
@@ -19,7 +22,7 @@ fn number_of(q: Thousandths) -> u64
 
 // The figures of a participant, in the order of its line.
 pub fn figures_of(f: Figures) -> [u64; 8]
-    ensures { λ r. ⌜ r ≡ f .tradeable .0 ∷ f .made .0 ∷ f .received .0 ∷ f .left .0 ∷ f .over .0 ∷ f .short .0 ∷ f .dsm .0 ∷ f .pay .0 ∷ [] ⌝ }
+    ensures { λ r. ⌜ r ≡ numbersOf f ⌝ }
 {
     [
         number_of(f.tradeable),
@@ -34,9 +37,13 @@ pub fn figures_of(f: Figures) -> [u64; 8]
 }
 
 // The line of one participant.
-fn print_participant(out: &mut [u8], page: Page, f: Figures) -> Page {
+fn print_participant(out: &mut [u8], page: Page, f: Figures) -> Page
+    requires { ⌜ 256 ≤ length (now out) ⌝ }
+    ensures { λ r. ⌜ Holds (withLine 256 (figuresLine (f .participant) (numbersOf f)) (record { bytes = now (out .entry); used = page .used })) (now (out .exit)) (r .used) ⌝ }
+{
     let ready = with_room(&*out, page, text::FIGURES_ROOM);
-    let used = text::figures_line(out, ready.used, f.participant, figures_of(f));
+    let numbers = figures_of(f);
+    let used = text::figures_line(out, ready.used, f.participant, numbers);
     Page {
         used,
         going: ready.going,
@@ -44,7 +51,10 @@ fn print_participant(out: &mut [u8], page: Page, f: Figures) -> Page {
 }
 
 // The line of each registered participant.
-fn print_figures(out: &mut [u8], page: Page, s: Settlement) -> Page {
+fn print_figures(out: &mut [u8], page: Page, s: Settlement) -> Page
+    requires { ⌜ 256 ≤ length (now out) ⌝ }
+    ensures { λ r. ⌜ Holds (withFigures (s .figures) (min (s .count) 32) (record { bytes = now (out .entry); used = page .used })) (now (out .exit)) (r .used) ⌝ }
+{
     let n = at_most(s.count as usize, 32);
     let mut now = page;
     let mut i: usize = 0;
@@ -56,7 +66,10 @@ fn print_figures(out: &mut [u8], page: Page, s: Settlement) -> Page {
 }
 
 // The line of a refusal.
-fn print_refusal(out: &mut [u8], page: Page, reason: u8) -> Page {
+fn print_refusal(out: &mut [u8], page: Page, reason: u8) -> Page
+    requires { ⌜ 256 ≤ length (now out) ⌝ }
+    ensures { λ r. ⌜ Holds (withLine 32 (refusalLine reason) (record { bytes = now (out .entry); used = page .used })) (now (out .exit)) (r .used) ⌝ }
+{
     let ready = with_room(&*out, page, text::REFUSAL_ROOM);
     let used = text::refusal_line(out, ready.used, reason);
     Page {
@@ -66,7 +79,10 @@ fn print_refusal(out: &mut [u8], page: Page, reason: u8) -> Page {
 }
 
 // A line for each registered participant, or that of the refusal.
-fn print_lines(out: &mut [u8], page: Page, s: Settlement) -> Page {
+fn print_lines(out: &mut [u8], page: Page, s: Settlement) -> Page
+    requires { ⌜ 256 ≤ length (now out) ⌝ }
+    ensures { λ r. ⌜ Holds (withSettlement s (record { bytes = now (out .entry); used = page .used })) (now (out .exit)) (r .used) ⌝ }
+{
     if s.reason != 0 {
         return print_refusal(out, page, s.reason);
     }
@@ -74,7 +90,9 @@ fn print_lines(out: &mut [u8], page: Page, s: Settlement) -> Page {
 }
 
 // The settlement of a book, after what is gathered already; and all of it is written.
-pub fn print_settlement(out: &mut [u8], page: Page, book: Whole, levels: &[u32]) {
+pub fn print_settlement(out: &mut [u8], page: Page, book: Whole, levels: &[u32])
+    requires { ⌜ 256 ≤ length (now out) ⌝ }
+{
     let month = book.month;
     let accounts = book.accounts;
     let allocations = book.ledger;

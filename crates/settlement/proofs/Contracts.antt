@@ -4,16 +4,15 @@ use mathlib.Core.Path.{_≡_}
 use mathlib.Core.Bool.{true, false}
 use mathlib.Core.Option.{some, none}
 use mathlib.Core.List.{[], _∷_}
-use Prim.Native.Nat.{_≤_, _<_}
+use Prim.Native.Nat.{_≤_}
 use lib.Dec.{eqb}
-use lib.ListN.{length, getD}
+use lib.ListN.{length}
 use mir.Syntax.{w32, w64}
 use Rattle.book.specs.Book.{participants}
-use Rattle.walks.proofs.Walk.Values.{number, boolean, nothing, struct}
+use Rattle.walks.proofs.Walk.Values.{number, boolean, nothing, struct, array}
 use Rattle.walks.proofs.Walk.Terms.{Terms, plain, shared, mutable}
 use Rattle.sound.specs.Check.{bookFrom}
 use Rattle.sound.proofs.Structs.{account, allocation, month, checked}
-use Rattle.settlement.specs.Figures.{noFigures}
 use Rattle.settlement.specs.Listing.{Settleable, settlementFrom}
 use Rattle.settlement.specs.Settling.{written, Settles}
 use Rattle.settlement.proofs.Structs.{figures, settlement, settled}
@@ -42,12 +41,12 @@ CountOf = record {
   ensures = λ a r ws. r ≡ a .0 .count;
 }
 
-abbrev pub FiguresAt : Terms
-FiguresAt = record {
-  params = plain (struct settlement) ∷ plain (number w64) ∷ [];
-  result = struct figures;
-  requires = some (λ a. a .1 .0 < participants);
-  ensures = λ a r ws. r ≡ getD (a .0 .figures) (a .1 .0) noFigures;
+abbrev pub FiguresIn : Terms
+FiguresIn = record {
+  params = plain (struct settlement) ∷ [];
+  result = array (struct figures) participants;
+  requires = none;
+  ensures = λ a r ws. r ≡ a .0 .figures;
 }
 
 abbrev pub Write : Terms

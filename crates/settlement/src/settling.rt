@@ -1,11 +1,10 @@
 // Settlement of a lent book into a lent room, or of a book that is handed over.
 ghost use mathlib.Core.Path.{_≡_};
-ghost use Prim.Native.Nat.{_≤_, _<_};
+ghost use Prim.Native.Nat.{_≤_};
 ghost use lib.Dec.{eqb};
-ghost use lib.ListN.{length, getD};
+ghost use lib.ListN.{length};
 ghost use Rattle.book.specs.Book.{participants};
 ghost use Rattle.sound.specs.Check.{bookFrom};
-ghost use Rattle.settlement.specs.Figures.{noFigures};
 ghost use Rattle.settlement.specs.Settling.{settlementOf, written, Settles};
 use crate::figures::Figures;
 use crate::listing::Settlement;
@@ -53,13 +52,11 @@ fn count_of(s: Settlement) -> usize
     s.count as usize
 }
 
-// The figures at a place.
-fn figures_at(s: Settlement, i: usize) -> Figures
-    requires { ⌜ i < participants ⌝ }
-    ensures { λ r. ⌜ r ≡ getD (s .figures) i noFigures ⌝ }
+// The places of the figures.
+fn figures_in(s: Settlement) -> [Figures; 32]
+    ensures { λ r. ⌜ r ≡ s .figures ⌝ }
 {
-    let figures = s.figures;
-    figures[i]
+    s.figures
 }
 
 // The first n figures, written to the first n places of a room; the rest of it stays.
@@ -67,9 +64,10 @@ fn write(room: &mut [Figures], s: Settlement, n: usize)
     requires { ⌜ (n ≤ length (now room)) × (n ≤ participants) ⌝ }
     ensures { λ _. ⌜ now (room .exit) ≡ written (s .figures) n (now (room .entry)) ⌝ }
 {
+    let figures = figures_in(s);
     let mut i: usize = 0;
     while i < n {
-        room[i] = figures_at(s, i);
+        room[i] = figures[i];
         i += 1;
     }
 }

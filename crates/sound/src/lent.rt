@@ -2,33 +2,14 @@
 ghost use mathlib.Core.Path.{_≡_};
 ghost use mathlib.Core.Bool.{cond};
 ghost use mathlib.Core.List.{_++_};
-ghost use Prim.Native.Nat.{_-_, _≤_, _<_};
+ghost use Prim.Native.Nat.{_-_, _≤_};
 ghost use lib.Dec.{ltb};
-ghost use lib.ListN.{length, set, take, replicate};
+ghost use lib.ListN.{length, take, replicate};
 ghost use Rattle.book.specs.Book.{noAccount, noAllocation};
 use book::Account;
 use book::Allocation;
 use book::fresh_accounts;
 use book::fresh_ledger;
-
-// The array with one record more.
-fn with_record(t: [Allocation; 256], i: usize, l: Allocation) -> [Allocation; 256]
-    requires { ⌜ i < 256 ⌝ }
-    ensures { λ r. ⌜ r ≡ set t i l ⌝ }
-{
-    let mut u = t;
-    u[i] = l;
-    u
-}
-
-fn with_account(t: [Account; 32], i: usize, a: Account) -> [Account; 32]
-    requires { ⌜ i < 32 ⌝ }
-    ensures { λ r. ⌜ r ≡ set t i a ⌝ }
-{
-    let mut u = t;
-    u[i] = a;
-    u
-}
 
 // An array of the first n records; the others are empty.
 pub fn load(ledger: &[Allocation], n: usize) -> [Allocation; 256]
@@ -38,7 +19,7 @@ pub fn load(ledger: &[Allocation], n: usize) -> [Allocation; 256]
     let mut t = fresh_ledger();
     let mut i: usize = 0;
     while i < n {
-        t = with_record(t, i, ledger[i]);
+        t[i] = ledger[i];
         i += 1;
     }
     t
@@ -52,7 +33,7 @@ pub fn load_accounts(accounts: &[Account], n: usize) -> [Account; 32]
     let mut t = fresh_accounts();
     let mut i: usize = 0;
     while i < n {
-        t = with_account(t, i, accounts[i]);
+        t[i] = accounts[i];
         i += 1;
     }
     t

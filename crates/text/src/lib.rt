@@ -19,7 +19,7 @@ pub const FIGURES_ROOM: usize = 256;
 pub const REFUSAL_ROOM: usize = 32;
 
 // Whether so many bytes stand from a place on, in a buffer of that length.
-fn has_room(length: usize, at: usize, most: usize) -> bool
+pub fn has_room(length: usize, at: usize, most: usize) -> bool
     ensures { λ r. ⌜ r ≡ leb (at + most) length ⌝ }
 {
     if length < at {

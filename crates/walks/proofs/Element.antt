@@ -1,5 +1,6 @@
 -- A record read and written at a place of a lent list, for any declared type T of plain data: `xs[i]` of a `&[T]`, and `xs[i] = x` of a `&mut [T]`.
 --     reads, writes        the two as steps of a walk, where a local holds the place: `_d = *_p`, and `*_p = _d`
+--     takes                the first of a list whose elements are had, as those of a local array are
 --     get-terms, get-mir, get-meets        the terms of `fn get(xs: &[T], i: usize) -> T { xs[i] }`, its MIR, and that the one meets the other
 --     put-terms, put-mir, put-meets        the same of `fn put(xs: &mut [T], i: usize, x: T) { xs[i] = x; }`
 -- The place of `xs[i]` is i times the size past the pointer. A `&[T]` is looked into, and the record is copied out whole; the elements of a `&mut [T]` are owned, and the record is stored whole.
@@ -44,27 +45,24 @@ reference 𝓤 S κ xs = ‵ (ShrSlice (named 0) κ (struct S .row) .own xs (sli
 
 -- ---- the steps. The local _p stands at place m of the rest of the context, and _d at place n
 module _ {M : Type 1} {𝓤 : URA M} {H : Heap 𝓤} {A : Atoms 𝓤} {K : Type 0} {W : Given 𝓤 H A} {Γ : List (Item 𝓤)} {E : Env 𝓤 H} {C : Calls 𝓤 H} {Λ : Loops 𝓤 H} {o : Post 𝓤 H} {rest : Body} {p d : ℕ} where
-  pub reads : K → (S : Struct) (κ : Lft) (q : Share) (xs : RefT (List (Of (struct S)))) (i : ℕ) (none : Of (struct S)) → i < length (now xs) → (m n : ℕ)
-      → nth 𝓤 H A m Γ ≡ ‵ (fat fullShare (spotOf 𝓤 H E p .0) (spotOf 𝓤 H E p .1) (spotOf 𝓤 H E p .2) (vptr (ptr xs .0) (place-of (size (by-value S)) (ptr xs .1) i)))
+  pub takes : K → (S : Struct) (q : Share) (ys : List (Of (struct S))) (b c i : ℕ) (none : Of (struct S)) → i < length ys → (m n : ℕ)
+      → nth 𝓤 H A m Γ ≡ ‵ (fat fullShare (spotOf 𝓤 H E p .0) (spotOf 𝓤 H E p .1) (spotOf 𝓤 H E p .2) (vptr b (place-of (size (by-value S)) c i)))
       → nth 𝓤 H A n Γ ≡ ‵ (froom (spotOf 𝓤 H E d .0) (spotOf 𝓤 H E d .1) (spotOf 𝓤 H E d .2))
       → spotOf 𝓤 H E d .0 ≡ by-value S
-      → (Fits (struct S) (getD (now xs) i none) → Seq K W (‵ (flft κ q) ∷ reference 𝓤 S κ xs ∷ put 𝓤 H A n (‵ (fat fullShare (spotOf 𝓤 H E d .0) (spotOf 𝓤 H E d .1) (spotOf 𝓤 H E d .2) (struct S .val (getD (now xs) i none)))) Γ) (runs C Λ E rest o))
-      → Seq K W (‵ (flft κ q) ∷ reference 𝓤 S κ xs ∷ Γ) (runs C Λ E (seq (assign (place d []) (rvOpd (copy (place p (deref (by-value S) ∷ []))))) rest) o)
-  reads t S κ q xs i none l m n at-p at-d ty k =
-      -- a copy of the reference is looked into
-      move t (1 ∷ []) $ use1 W (reference 𝓤 S κ xs ⊛ reference 𝓤 S κ xs) (shr-slice-copy 𝓤 H A W (named 0) κ R .twice xs (slice-vals xs)) $ split t $ fsplit t $ drop t $ fsplit t $ drop t $ move t (0 ∷ 2 ∷ []) $
-      looks-slice t tt R (Is R) (shows 𝓤 H A R) (λ x. struct S .val x ∷ []) (struct S .tells) (copies 𝓤 H A (struct S) W) (now xs) (ptr xs .0) (ptr xs .1) (λ q′.
-      elem-out t R (Is R) (shows 𝓤 H A R) (λ x. struct S .val x ∷ []) (struct S .tells) q′ (now xs) i none (ptr xs .0) (ptr xs .1) l (λ is.
-      -- [xs[i]; what it owns; the others; what shuts; the fractured borrow; the reference; …]
-      assigns t (of-opd t (load t (from t (hop t (look t (suc (suc (suc (suc (suc (suc m)))))) at-p) (stop t))) (look-raw t 0 refl))) (from t (stop t))
-      (init t (suc (suc (suc (suc (suc (suc n)))))) at-d (subst (λ (τ : Ty). Holds (hasTy τ (struct S .val x)) × WT (struct S .val x)) (sym ty) (struct S .lawful 𝓤 H A W .typed x _ is .0))) $
-      elem-back t R q′ (now xs) i none (struct S .val x ∷ []) (ptr xs .0) (ptr xs .1) l $ shuts-slice t tt R q′ (now xs) (ptr xs .0) (ptr xs .1) $ move t (1 ∷ []) $ drop t $ k is))
+      → (Fits (struct S) (getD ys i none) → Seq K W (‵ (records (struct S .row) q ys b c) ∷ put 𝓤 H A n (‵ (fat fullShare (spotOf 𝓤 H E d .0) (spotOf 𝓤 H E d .1) (spotOf 𝓤 H E d .2) (struct S .val (getD ys i none)))) Γ) (runs C Λ E rest o))
+      → Seq K W (‵ (records (struct S .row) q ys b c) ∷ Γ) (runs C Λ E (seq (assign (place d []) (rvOpd (copy (place p (deref (by-value S) ∷ []))))) rest) o)
+  takes t S q ys b c i none l m n at-p at-d ty k =
+      elem-out t R (Is R) (shows 𝓤 H A R) (λ x. struct S .val x ∷ []) (struct S .tells) q ys i none b c l (λ is.
+      -- [ys[i]; what it owns; the others; …]
+      assigns t (of-opd t (load t (from t (hop t (look t (suc (suc (suc m))) at-p) (stop t))) (look-raw t 0 refl))) (from t (stop t))
+      (init t (suc (suc (suc n))) at-d (subst (λ (τ : Ty). Holds (hasTy τ (struct S .val x)) × WT (struct S .val x)) (sym ty) (struct S .lawful 𝓤 H A W .typed x _ is .0))) $
+      elem-back t R q ys i none (struct S .val x ∷ []) b c l $ k is)
     where
       R : RattleType
       R = struct S .row
 
       x : Of (struct S)
-      x = getD (now xs) i none
+      x = getD ys i none
 
   pub writes : K → (S : Struct) (ys : List (Of (struct S))) (b c i : ℕ) (x none : Of (struct S)) → Fits (struct S) x → i < length ys → (m n : ℕ)
       → nth 𝓤 H A m Γ ≡ ‵ (fat fullShare (spotOf 𝓤 H E p .0) (spotOf 𝓤 H E p .1) (spotOf 𝓤 H E p .2) (vptr b (place-of (size (by-value S)) c i)))
@@ -75,6 +73,23 @@ module _ {M : Type 1} {𝓤 : URA M} {H : Heap 𝓤} {A : Atoms 𝓤} {K : Type 
       -- [xs[i]; what it owns; the others; …]
       assigns t (of-opd t (load t (from t (stop t)) (look t (suc (suc (suc n))) at-d))) (from t (hop t (look t (suc (suc (suc m))) at-p) (stop t))) (store-raw t 0 refl (struct S .lawful 𝓤 H A W .typed x _ is .0)) $
       move t (1 ∷ []) $ drop t $ made t R (Is R) (makes 𝓤 H A (struct S)) x _ is $ move t (1 ∷ 0 ∷ []) $ elem-put t R fullShare ys i x (struct S .val x ∷ []) b c l $ s))
+    where
+      R : RattleType
+      R = struct S .row
+
+module _ {M : Type 1} {𝓤 : URA M} {H : Heap 𝓤} {A : Atoms 𝓤} {K : Type 0} {W : Given 𝓤 H A} {Γ : List (Item 𝓤)} {E : Env 𝓤 H} {C : Calls 𝓤 H} {Λ : Loops 𝓤 H} {o : Post 𝓤 H} {rest : Body} {p d : ℕ} where
+  pub reads : K → (S : Struct) (κ : Lft) (q : Share) (xs : RefT (List (Of (struct S)))) (i : ℕ) (none : Of (struct S)) → i < length (now xs) → (m n : ℕ)
+      → nth 𝓤 H A m Γ ≡ ‵ (fat fullShare (spotOf 𝓤 H E p .0) (spotOf 𝓤 H E p .1) (spotOf 𝓤 H E p .2) (vptr (ptr xs .0) (place-of (size (by-value S)) (ptr xs .1) i)))
+      → nth 𝓤 H A n Γ ≡ ‵ (froom (spotOf 𝓤 H E d .0) (spotOf 𝓤 H E d .1) (spotOf 𝓤 H E d .2))
+      → spotOf 𝓤 H E d .0 ≡ by-value S
+      → (Fits (struct S) (getD (now xs) i none) → Seq K W (‵ (flft κ q) ∷ reference 𝓤 S κ xs ∷ put 𝓤 H A n (‵ (fat fullShare (spotOf 𝓤 H E d .0) (spotOf 𝓤 H E d .1) (spotOf 𝓤 H E d .2) (struct S .val (getD (now xs) i none)))) Γ) (runs C Λ E rest o))
+      → Seq K W (‵ (flft κ q) ∷ reference 𝓤 S κ xs ∷ Γ) (runs C Λ E (seq (assign (place d []) (rvOpd (copy (place p (deref (by-value S) ∷ []))))) rest) o)
+  reads t S κ q xs i none l m n at-p at-d ty k =
+      -- a copy of the reference is looked into
+      move t (1 ∷ []) $ use1 W (reference 𝓤 S κ xs ⊛ reference 𝓤 S κ xs) (shr-slice-copy 𝓤 H A W (named 0) κ R .twice xs (slice-vals xs)) $ split t $ fsplit t $ drop t $ fsplit t $ drop t $ move t (0 ∷ 2 ∷ []) $
+      looks-slice t tt R (Is R) (shows 𝓤 H A R) (λ x. struct S .val x ∷ []) (struct S .tells) (copies 𝓤 H A (struct S) W) (now xs) (ptr xs .0) (ptr xs .1) (λ q′.
+      -- [the records; what shuts; the fractured borrow; the reference; …]
+      takes t S q′ (now xs) (ptr xs .0) (ptr xs .1) i none l (suc (suc (suc m))) (suc (suc (suc n))) at-p at-d ty (λ is. shuts-slice t tt R q′ (now xs) (ptr xs .0) (ptr xs .1) $ move t (1 ∷ []) $ drop t $ k is))
     where
       R : RattleType
       R = struct S .row

@@ -42,7 +42,11 @@ mul-before : tie.Need-mul-before Inv-loop μ-loop
 mul-before c = search needs
 
 print-answers-requires : tie.Need-print-answers-requires Inv-loop μ-loop
-print-answers-requires c κs = search needs
+print-answers-requires c κs =
+    let turn = c .before .before .before .before .before .before .before .before .before .before .before .before .before .before .before in
+    let start = turn .before .before .before .before .before .before .before in
+    let long : 256 ≤ length (start .args .out .now) = start .pre in
+    (omega (arith, long, turn .loop .inv .1 .1 .1 .1), omega arith)
 
 left-after-requires : tie.Need-left-after-requires Inv-loop μ-loop
 left-after-requires c κs = search needs

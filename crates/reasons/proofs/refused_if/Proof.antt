@@ -5,4 +5,4 @@ use Rattle.reasons.proofs.refused_if.Tie as tie
 
 pub refused-if-spec : {M : Type 1} → statement M
 unfolding when
-refused-if-spec = tie.close (tie.spec (λ c. cc) (λ c. cc))
+refused-if-spec = tie.close (tie.spec (λ c. rw (c .if1 .taken)) (λ c. rw (c .if1 .left)))

@@ -5,4 +5,4 @@ use Rattle.reasons.proofs.refused_unless.Tie as tie
 
 pub refused-unless-spec : {M : Type 1} → statement M
 unfolding when
-refused-unless-spec = tie.close (tie.spec (λ c. cc) (λ c. cc))
+refused-unless-spec = tie.close (tie.spec (λ c. rw (c .if1 .taken)) (λ c. rw (c .if1 .left)))

@@ -1,14 +1,10 @@
 -- `store` meets its contract: it is `Storer`'s, of 256 allocations.
 -- Assumes nothing.
 use contract.Running.{givenOf, tables, tablesOf}
-use denote.Triple.Table.{entered, cited}
+use denote.Triple.Table.{entered}
 use Rattle.book.specs.Book.{noAllocation}
 use Rattle.sound.proofs.Structs.{allocation}
 use Rattle.walks.proofs.Storer.{store-meets}
-use Rattle.walks.proofs.Walk.Body.{frames}
-use Rattle.ledger.proofs.lent.record_at.Symbol as record-at-def
-use Rattle.ledger.proofs.lent.record_at.Symbol.{name as #ledger·lent·record-at}
-use Rattle.ledger.proofs.lent.record_at.Met as record-at-thm
 use Rattle.ledger.proofs.lent.store.Key.{name as #ledger·lent·store}
 use Rattle.ledger.proofs.lent.store.Statement as stated
 use Rattle.ledger.proofs.lent.store.Code as code
@@ -17,5 +13,4 @@ pub store-spec : {M : Type 1} → stated.statement M
 unfolding code.routine tablesOf
 store-spec 𝓤 H 𝓜 𝓖 𝓡 =
     entered 𝓤 H _ (tables 𝓤 H 𝓜 𝓡 code.env .C) (tables 𝓤 H 𝓜 𝓡 code.env .Λ) #ledger·lent·store code.function (code.unfolded 𝓤 H 𝓜 𝓡)
-    (store-meets allocation noAllocation 256 #ledger·lent·record-at tt tt 𝓤 H (𝓖 .A) (givenOf 𝓤 H 𝓜 𝓖) (tablesOf 𝓤 H 𝓜 (tables 𝓤 H 𝓜 𝓡 code.env)) (frames 𝓤 H 𝓜 𝓖 𝓡 code.env)
-    (cited 𝓤 H _ 𝓜 𝓡 code.env #ledger·lent·record-at record-at-def.routine code.calls-ledger·lent·record-at (record-at-thm.met 𝓤 H 𝓜 𝓖 𝓡)))
+    (store-meets allocation noAllocation 256 tt tt 𝓤 H (𝓖 .A) (givenOf 𝓤 H 𝓜 𝓖) (tablesOf 𝓤 H 𝓜 (tables 𝓤 H 𝓜 𝓡 code.env)))

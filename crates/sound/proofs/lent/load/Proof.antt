@@ -6,9 +6,6 @@ use Rattle.book.specs.Book.{noAllocation}
 use Rattle.walks.proofs.Loader.{load-meets}
 use Rattle.sound.proofs.Structs.{allocation}
 use Rattle.walks.proofs.Walk.Body.{frames}
-use Rattle.sound.proofs.lent.with_record.Symbol as with-record-def
-use Rattle.sound.proofs.lent.with_record.Symbol.{name as #sound·lent·with-record}
-use Rattle.sound.proofs.lent.with_record.Met as with-record-thm
 use Rattle.book.proofs.fresh_ledger.Symbol as fresh-ledger-def
 use Rattle.book.proofs.fresh_ledger.Symbol.{name as #book·fresh-ledger}
 use Rattle.book.proofs.fresh_ledger.Met as fresh-ledger-thm
@@ -20,6 +17,5 @@ pub load-spec : {M : Type 1} → stated.statement M
 unfolding code.routine tablesOf
 load-spec 𝓤 H 𝓜 𝓖 𝓡 =
     entered 𝓤 H _ (tables 𝓤 H 𝓜 𝓡 code.env .C) (tables 𝓤 H 𝓜 𝓡 code.env .Λ) #sound·lent·load code.function (code.unfolded 𝓤 H 𝓜 𝓡)
-    (load-meets allocation noAllocation 256 #book·fresh-ledger #sound·lent·with-record tt 𝓤 H (𝓖 .A) (givenOf 𝓤 H 𝓜 𝓖) (tablesOf 𝓤 H 𝓜 (tables 𝓤 H 𝓜 𝓡 code.env)) (frames 𝓤 H 𝓜 𝓖 𝓡 code.env)
-    (cited 𝓤 H _ 𝓜 𝓡 code.env #sound·lent·with-record with-record-def.routine code.calls-sound·lent·with-record (with-record-thm.met 𝓤 H 𝓜 𝓖 𝓡))
+    (load-meets allocation noAllocation 256 #book·fresh-ledger tt 𝓤 H (𝓖 .A) (givenOf 𝓤 H 𝓜 𝓖) (tablesOf 𝓤 H 𝓜 (tables 𝓤 H 𝓜 𝓡 code.env)) (frames 𝓤 H 𝓜 𝓖 𝓡 code.env)
     (cited 𝓤 H _ 𝓜 𝓡 code.env #book·fresh-ledger fresh-ledger-def.routine code.calls-book·fresh-ledger (fresh-ledger-thm.met 𝓤 H 𝓜 𝓖 𝓡)))

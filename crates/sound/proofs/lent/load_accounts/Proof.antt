@@ -6,9 +6,6 @@ use Rattle.book.specs.Book.{noAccount}
 use Rattle.walks.proofs.Loader.{load-meets}
 use Rattle.sound.proofs.Structs.{account}
 use Rattle.walks.proofs.Walk.Body.{frames}
-use Rattle.sound.proofs.lent.with_account.Symbol as with-account-def
-use Rattle.sound.proofs.lent.with_account.Symbol.{name as #sound·lent·with-account}
-use Rattle.sound.proofs.lent.with_account.Met as with-account-thm
 use Rattle.book.proofs.fresh_accounts.Symbol as fresh-accounts-def
 use Rattle.book.proofs.fresh_accounts.Symbol.{name as #book·fresh-accounts}
 use Rattle.book.proofs.fresh_accounts.Met as fresh-accounts-thm
@@ -20,6 +17,5 @@ pub load-accounts-spec : {M : Type 1} → stated.statement M
 unfolding code.routine tablesOf
 load-accounts-spec 𝓤 H 𝓜 𝓖 𝓡 =
     entered 𝓤 H _ (tables 𝓤 H 𝓜 𝓡 code.env .C) (tables 𝓤 H 𝓜 𝓡 code.env .Λ) #sound·lent·load-accounts code.function (code.unfolded 𝓤 H 𝓜 𝓡)
-    (load-meets account noAccount 32 #book·fresh-accounts #sound·lent·with-account tt 𝓤 H (𝓖 .A) (givenOf 𝓤 H 𝓜 𝓖) (tablesOf 𝓤 H 𝓜 (tables 𝓤 H 𝓜 𝓡 code.env)) (frames 𝓤 H 𝓜 𝓖 𝓡 code.env)
-    (cited 𝓤 H _ 𝓜 𝓡 code.env #sound·lent·with-account with-account-def.routine code.calls-sound·lent·with-account (with-account-thm.met 𝓤 H 𝓜 𝓖 𝓡))
+    (load-meets account noAccount 32 #book·fresh-accounts tt 𝓤 H (𝓖 .A) (givenOf 𝓤 H 𝓜 𝓖) (tablesOf 𝓤 H 𝓜 (tables 𝓤 H 𝓜 𝓡 code.env)) (frames 𝓤 H 𝓜 𝓖 𝓡 code.env)
     (cited 𝓤 H _ 𝓜 𝓡 code.env #book·fresh-accounts fresh-accounts-def.routine code.calls-book·fresh-accounts (fresh-accounts-thm.met 𝓤 H 𝓜 𝓖 𝓡)))

@@ -5,4 +5,4 @@ use Rattle.sound.proofs.limits.is_no_allocation.Tie as tie
 
 pub is-no-allocation-spec : {M : Type 1} → statement M
 unfolding isNoAllocation
-is-no-allocation-spec = tie.close (tie.spec (λ _ _. tt) (λ _ _. tt) (λ _ _. tt) (λ _ _. tt) (λ c. cc))
+is-no-allocation-spec = tie.close (tie.spec (λ _ _. tt) (λ _ _. tt) (λ _ _. tt) (λ _ _. tt) (λ c. rw (c .both3 .ensures, c .before .number-of .ensures, c .before .before .both2 .ensures, c .before .before .before .both .ensures)))

@@ -21,7 +21,7 @@ both-requires-2 c κs = search needs
 returns : tie.Need-returns
 returns c =
     let windows : length (c .before .before .args .m .windows) ≡ 4 = search (needs, long) in
-    rw (eq-eqb (length (c .before .before .args .m .windows)) 4 windows) (cc)
+    rw (eq-eqb (length (c .before .before .args .m .windows)) 4 windows, c .both2 .ensures, c .before .both .ensures)
 
 pub has-right-lengths-spec : {M : Type 1} → statement M
 has-right-lengths-spec = tie.close (tie.spec both-requires both-requires-2 returns)

@@ -1,6 +1,6 @@
 -- `text::row::put_row` meets its contract: whatever text comes of putting the rest of the line from here is the whole line put from the start.
 -- Each turn puts a number, and there are 21 bytes for each that is left. Assumes nothing.
-use mathlib.Core.Path.{_≡_, sym, ap, _∙_}
+use mathlib.Core.Path.{_≡_, _∙_}
 use mathlib.Core.List.{List}
 use Prim.Native.Nat.{ℕ, _+_, _-_, _*_, _≤_}
 use native.Mathlib.Omega.{arith}

@@ -1,0 +1,5 @@
+pub mod Numbers
+pub mod Readable
+pub mod Fitting
+pub mod Lent
+pub mod Inner

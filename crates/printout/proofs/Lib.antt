@@ -1,0 +1,2 @@
+-- The laws of a page, line by line.
+pub mod Pages
