@@ -10,8 +10,9 @@ use native.Mathlib.Numerals.{add-one}
 use native.Mathlib.Omega.{arith}
 use lib.ListN.{getD, replicate}
 use Rattle.record.specs.declared.Decoded.the-variants as D
-use Rattle.record.specs.Record.{decodeOf, written}
+use Rattle.record.specs.Record.{decodeOf}
 use Rattle.book.specs.Book.{Book, fresh}
+use Rattle.book.specs.Kinds.{kindOf, timeOf}
 use Rattle.book.specs.Run.{recordsOf, bookAfter, answerAt}
 use Rattle.book.specs.Origin.{decodedPuts, recordPuts, putsAt, originOf, Origin}
 use Rattle.book.proofs.Tables.{blank}
@@ -64,8 +65,8 @@ module _ (b : Book) (records : ℕ → List ℕ) (n : ℕ) where
 -- what stands for a quantity is its origin, with the kind and the minute of the origin's step
 pub record Answered (records : ℕ → List ℕ) (n m : ℕ) (p : Put) : Type 0 where
   pub from : Origin fresh records n m (p .place)
-  pub kind : p .kind ≡ written (from .step) .kind
-  pub minute : p .minute ≡ written (from .step) .minute
+  pub kind : p .kind ≡ kindOf (from .step)
+  pub minute : p .minute ≡ timeOf (from .step)
 
 -- for any run from the fresh book, where no place passes 64 bits
 pub origin-stands : (records : ℕ → List ℕ) (m n : ℕ) → m < 2 ^ 64 → 1 ≤ n → n ≤ bookAfter fresh records m .month .given → Answered records n m (putFrom fresh records 0 n m noPut)

@@ -1,13 +1,14 @@
 -- One record, of 1 to 24 bytes, as a history of its own: a run does it alone, so that the book is the one after it and the word is its answer's. A reason
 -- is below 32, so that the word's remainder is the reason (`reason-is`). Assumes nothing.
-use mathlib.Core.Path.{_≡_, ap, _∙_}
+use mathlib.Core.Path.{_≡_, refl, ap, _∙_}
 use mathlib.Core.Bool.{Bool, true, false, cond, _&&_}
-use mathlib.Core.List.{List}
+use mathlib.Core.List.{List, [], _∷_}
 use Prim.Native.Nat.{ℕ, _%_, _≤_, _<_}
 use native.Mathlib.Omega.{arith}
-use lib.Dec.{eqb}
+use lib.Dec.{eqb, leb}
 use lib.ListN.{length, getD, set}
 use lib.Seq.{take-all, getD-set-same}
+use borrow.Author.Tests.{leb-true}
 use Rattle.record.specs.declared.Step.{Step}
 use Rattle.record.specs.declared.Decoded.{Decoded}
 use Rattle.record.specs.declared.Decoded.the-variants as D
@@ -16,9 +17,10 @@ use Rattle.book.specs.declared.Month.{Month}
 use Rattle.book.specs.declared.Account.{Account}
 use Rattle.book.specs.declared.Allocation.{Allocation}
 use Rattle.book.specs.Book.{Book}
-use Rattle.book.specs.Reasons.{reasonOf, reason2, reason3, reason4, reason5, reason6, reason7, reason8, reason9, reason10, reason11, reason12, reason13, reason14, reason15}
+use Rattle.book.specs.Reasons.{Line, table, lowest, reasonOf}
 use Rattle.book.specs.Steps.{refusal, numberGiven, answerOf}
 use Rattle.book.specs.Run.{usable, decodedAnswer, recordAnswer, recordBook, recordsOf, bookAfter, answerAt}
+use Rattle.book.proofs.Tests.{and-left, and-right}
 use Rattle.ledger.specs.Running.{wordOf, written, answered, Runs}
 use Rattle.audit.specs.declared.origin.Put.{Put}
 use Rattle.audit.specs.Following.{noPut, putIn}
@@ -30,22 +32,20 @@ low : (t : Bool) (k r : ℕ) → k ≤ 15 → r ≤ 15 → cond t k r ≤ 15
 low true k r h l = h
 low false k r h l = l
 
+-- every number of some lines is
+abbrev small : List Line → Bool
+small [] = true
+small (l ∷ ls) = leb (l .number) 15 && small ls
+
+lowest-low : (b : Book) (s : Step) (ls : List Line) → small ls ≡ true → lowest ls b s ≤ 15
+lowest-low b s [] h = omega arith
+lowest-low b s (l ∷ ls) h =
+    let first = leb (l .number) 15 in
+    low (l .applies b s) (l .number) (lowest ls b s) (leb-true (l .number) 15 (and-left first (small ls) h)) (lowest-low b s ls (and-right first (small ls) h))
+
 step-low : (b : Book) (s : Step) → reasonOf b s ≤ 15
 unfolding reasonOf
-step-low b s =
-    low (reason2 b s) 2 _ (omega arith)
-    (low (reason3 b s) 3 _ (omega arith)
-    (low (reason4 b s) 4 _ (omega arith)
-    (low (reason5 b s) 5 _ (omega arith)
-    (low (reason6 b s) 6 _ (omega arith)
-    (low (reason7 b s) 7 _ (omega arith)
-    (low (reason8 b s) 8 _ (omega arith)
-    (low (reason9 b s) 9 _ (omega arith)
-    (low (reason10 b s) 10 _ (omega arith)
-    (low (reason11 b s) 11 _ (omega arith)
-    (low (reason12 b s) 12 _ (omega arith)
-    (low (reason13 b s) 13 _ (omega arith)
-    (low (reason14 b s) 14 _ (omega arith) (low (reason15 b s) 15 0 (omega arith) (omega arith))))))))))))))
+step-low b s = lowest-low b s table refl
 
 decoded-low : (b : Book) (d : Decoded) → decodedAnswer b d .reason ≤ 15
 unfolding decodedAnswer answerOf

@@ -1,4 +1,4 @@
--- One record: what its fields say of a quantity is what document 01 says of it, kind by kind (`said-puts`), so that the answer's reason and the record
+-- One record: what its step says of a quantity is what document 01 says of it, kind by kind (`said-puts`), so that the answer's reason and the record
 -- together tell what stands for each allocation (`put-after`). Assumes nothing.
 use mathlib.Core.Path.{_≡_, refl, sym, ap}
 use mathlib.Core.Bool.{cond, _&&_}
@@ -11,7 +11,7 @@ use Rattle.record.specs.declared.Step.{Step}
 use Rattle.record.specs.declared.Step.the-variants.{Open, Window, Register, Requirement, Margin, Create, Terminate, Submit, Withdraw, Accept, AskReversal, AgreeReversal, GeneratorAmends, OperatorAmends}
 use Rattle.record.specs.declared.Decoded.{Decoded}
 use Rattle.record.specs.declared.Decoded.the-variants as D
-use Rattle.record.specs.Record.{decodeOf, written}
+use Rattle.record.specs.Record.{decodeOf}
 use Rattle.book.specs.Book.{Book, noAllocation}
 use Rattle.book.specs.Cut.{isCut}
 use Rattle.book.specs.Run.{recordAnswer}
@@ -21,7 +21,7 @@ use Rattle.audit.specs.Following.{putIn, putAfter}
 use Rattle.audit.specs.Putting.{putsBy, saidPuts}
 
 module _ (b : Book) (i : ℕ) where
-  step-puts : (s : Step) → puts b s (suc i) ≡ putsBy (written s) (b .month .given) (suc i) (getD (b .ledger) i noAllocation)
+  step-puts : (s : Step) → puts b s (suc i) ≡ putsBy s (b .month .given) (suc i) (getD (b .ledger) i noAllocation)
   unfolding puts putsBy
   step-puts (Open d p t) = refl
   step-puts (Window s e t) = refl

@@ -6,10 +6,12 @@ use mathlib.Core.List.{List}
 use Prim.Native.Nat.{ℕ, zero, suc, _+_, _-_, _^_, _<_, min}
 use lib.IntN.{pos}
 use lib.ListN.{length, getD}
+use Rattle.record.specs.declared.Step.{Step}
 use Rattle.record.specs.declared.Decoded.{Decoded}
 use Rattle.record.specs.declared.Decoded.the-variants as D
-use Rattle.record.specs.Record.{decodeOf, written}
+use Rattle.record.specs.Record.{decodeOf}
 use Rattle.book.specs.Book.{Book}
+use Rattle.book.specs.Kinds.{kindOf, timeOf}
 use Rattle.book.specs.Run.{recordsOf, bookAfter}
 use Rattle.book.specs.Origin.{recordPuts}
 use Rattle.ledger.specs.Running.{recordsIn}
@@ -20,9 +22,13 @@ use Rattle.audit.specs.declared.origin.Followed.{Followed}
 abbrev pub noPut : Put
 noPut = record { place = 0; kind = 0; minute = record { 0 = pos 0 } }
 
--- the step that a record says, as the one that put a quantity, at a place of the history
+-- a step as the one that put a quantity, at a place of the history
+abbrev pub putOf : Step → ℕ → Put
+putOf s place = record { place = place; kind = kindOf s; minute = timeOf s }
+
+-- the step that a record says
 abbrev pub putIn : ℕ → Decoded → Put
-putIn place (D.Step s) = record { place = place; kind = written s .kind; minute = written s .minute }
+putIn place (D.Step s) = putOf s place
 putIn place D.Refused = noPut
 
 -- what stands for allocation n after a record: its step where it was done and puts the quantity, else what stood there

@@ -6,16 +6,23 @@ ghost use Prim.Native.Nat.{_+_, _/_, _≤_, _<_, _^_, _-_, min};
 ghost use lib.Dec.{eqb};
 ghost use lib.ListN.{length, replicate};
 ghost use Rattle.sound.specs.Check.{bookFrom};
-ghost use Rattle.audit.specs.Following.{noPut, putIn, Follows};
-ghost use Rattle.audit.specs.Putting.{putsBy, putOf, saidPuts, PutEach, FollowsOne};
+ghost use Rattle.audit.specs.Following.{noPut, putOf, putIn, Follows};
+ghost use Rattle.audit.specs.Putting.{putsBy, saidPuts, PutEach, FollowsOne};
 use book::Account;
 use book::Allocation;
 use book::Month;
 use ledger::is_cut;
 use ledger::run_whole;
 use record::Decoded;
-use record::Fields;
+use record::Step;
 use units::Minutes;
+
+// The numbers of the kinds that put a quantity.
+pub const SUBMIT: u8 = 8;
+
+pub const GENERATOR_AMENDS: u8 = 13;
+
+pub const OPERATOR_AMENDS: u8 = 14;
 
 // The step that put a quantity: its place in the history, its kind and its minute. All 0 where none did.
 pub struct Put {
@@ -44,51 +51,59 @@ pub fn nothing_put() -> [Put; 256]
     [none; 256]
 }
 
-// Whether a done step puts the quantity of the allocation with that number, where so many numbers were given.
-fn does_put(f: Fields, given: u16, number: u64, l: Allocation) -> bool
-    ensures { λ r. ⌜ r ≡ putsBy f given number l ⌝ }
+// What stands for an allocation: the step, where it puts the quantity, else what stood there.
+fn put_if(puts: bool, place: u64, kind: u8, minute: Minutes, before: Put) -> Put
+    ensures { λ r. ⌜ r ≡ cond puts (record { place = place; kind = kind; minute = minute }) before ⌝ }
 {
-    if f.kind == 8 {
-        return number == given as u64 + 1;
-    }
-    if f.kind == 13 {
-        return number == f.number as u64;
-    }
-    if f.kind == 14 {
-        return is_cut(f.a, l);
-    }
-    false
-}
-
-// What stands for an allocation after a done step.
-fn put_by(f: Fields, given: u16, number: u64, l: Allocation, place: u64, before: Put) -> Put
-    ensures { λ r. ⌜ r ≡ cond (putsBy f given number l) (putOf f place) before ⌝ }
-{
-    if does_put(f, given, number, l) {
-        let minute = f.minute;
+    if puts {
         return Put {
             place,
-            kind: f.kind,
+            kind,
             minute,
         };
     }
     before
 }
 
+// What stands for the allocation with that number after a done step, where so many numbers were given.
+fn put_by(step: Step, given: u16, number: u64, l: Allocation, place: u64, before: Put) -> Put
+    ensures { λ r. ⌜ r ≡ cond (putsBy step given number l) (putOf step place) before ⌝ }
+{
+    match step {
+        Step::Submit { at, .. } => {
+            let puts = number == given as u64 + 1;
+            put_if(puts, place, SUBMIT, at, before)
+        }
+        Step::GeneratorAmends {
+            number: amended,
+            at,
+            ..
+        } => {
+            let puts = number == amended as u64;
+            put_if(puts, place, GENERATOR_AMENDS, at, before)
+        }
+        Step::OperatorAmends { generator, at } => {
+            let puts = is_cut(generator, l);
+            put_if(puts, place, OPERATOR_AMENDS, at, before)
+        }
+        _ => before,
+    }
+}
+
 // What stands for each allocation.
 fn put_all(
-    f: Fields,
+    step: Step,
     given: u16,
     ledger: [Allocation; 256],
     place: u64,
     puts: [Put; 256],
 ) -> [Put; 256]
-    ensures { λ r. ⌜ PutEach (putsBy f given) ledger (putOf f place) puts r ⌝ }
+    ensures { λ r. ⌜ PutEach (putsBy step given) ledger (putOf step place) puts r ⌝ }
 {
     let mut after = puts;
     let mut i: usize = 0;
     while i < 256 {
-        after[i] = put_by(f, given, i as u64 + 1, ledger[i], place, puts[i]);
+        after[i] = put_by(step, given, i as u64 + 1, ledger[i], place, puts[i]);
         i += 1;
     }
     after
@@ -109,7 +124,7 @@ fn puts_after(
         return puts;
     }
     match said {
-        Decoded::Step(step) => put_all(record::fields_of(step), given, ledger, place, puts),
+        Decoded::Step(step) => put_all(step, given, ledger, place, puts),
         Decoded::Refused => puts,
     }
 }

@@ -15,7 +15,7 @@ use Rattle.share.proofs.Sums.{sum-bound}
 use Rattle.book.specs.declared.Account.{Account}
 use Rattle.book.specs.declared.Allocation.{Allocation}
 use Rattle.book.specs.Book.{Book, account, isGenerator, isCustomer, isRegistered, noAccount, noAllocation, participants, mostPrice, mostLevel, mostQuantity, mostNet, levelPlaces}
-use Rattle.book.specs.Words.{isAccepted, acceptedIn, receivedIn, total, pending, accepted, received, levelPlace, level, overDays, tradeable, net, exposedDays}
+use Rattle.book.specs.Words.{isAccepted, acceptedIn, receivedIn, total, pending, accepted, received, levelPlace, level, overDays, tradeable, tradeableIn, net, exposedDays}
 use Rattle.book.specs.Reasons.{change}
 use Rattle.book.specs.Settlement.{dsmOf, figuresOf}
 use Rattle.book.proofs.Magnitudes.{abs-neg, abs-difference, abs-add, abs-less, abs-is, abs-most}
@@ -70,7 +70,7 @@ module _ {b : Book} (o : Opened b) where
   kind-most p kind d = days-most d mostLevel (level b p kind) (λ day. level-most (levelPlace p kind day))
 
   pub tradeable-most : (g : ℕ) → tradeable b g ≤ mostQuantity
-  unfolding tradeable
+  unfolding tradeableIn
   tradeable-most g = div-le-of-le-mul (b .month .days) (omega (arith, kind-most g 1 (b .month .days), kind-most g 2 (b .month .days)))
 
   pub dsm-most : (p : ℕ) → dsmOf b p ≤ mostLevel
@@ -126,8 +126,8 @@ exposed-most (pos t) d = omega arith
 exposed-most (negsuc t) d = omega arith
 
 -- the net that a change of at most 20,000,000 would give, against the net at the figure
-pub margin-net-within : {b : Book} → Opened b → (p : ℕ) (c : ℤ) → p < participants → natAbs c ≤ mostQuantity → natAbs (net b p +ℤ c -ℤ account b p .net .0) ≤ mostNet + mostQuantity + mostNet
-margin-net-within {b} o p c l h = omega (arith, abs-less (net b p +ℤ c) (account b p .net .0), abs-add (net b p) c, net-within o p l, o .accounts p l .net)
+pub margin-net-within : {b : Book} → Opened b → (p : ℕ) (c : ℤ) → p < participants → natAbs c ≤ mostQuantity → natAbs (net b p +ℤ c -ℤ account b p .margin .net .0) ≤ mostNet + mostQuantity + mostNet
+margin-net-within {b} o p c l h = omega (arith, abs-less (net b p +ℤ c) (account b p .margin .net .0), abs-add (net b p) c, net-within o p l, o .accounts p l .net)
 
 module _ {b : Book} (o : Opened b) where
   pub price-is : pos (natAbs (b .month .price .0)) ≡ b .month .price .0

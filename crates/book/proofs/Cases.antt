@@ -12,7 +12,7 @@ use Rattle.share.specs.Shares.{shareOf, floors, spare, claim, next, giveOne, gi
 use Rattle.book.specs.declared.Allocation.{Allocation}
 use Rattle.book.specs.declared.Status.the-variants.{Accepted}
 use Rattle.book.specs.Book.{Book, fresh}
-use Rattle.book.specs.Words.{tradeable, exposedDays, margin, pendingIn, acceptedIn, receivedIn, total, overDays}
+use Rattle.book.specs.Words.{tradeable, tradeableIn, exposedDays, marginOf, pendingIn, acceptedIn, receivedIn, total, overDays}
 use Rattle.book.specs.Reasons.{reasonOf, reason2, reason3, reason4, reason5, reason6, inRange, reason8, reason9, reason10, reason11, reason12, reason13, reason14, reason15, some, change, windowOpen}
 use Rattle.book.specs.Cut.{cut, recut}
 use Rattle.book.specs.Steps.{bookOf, done, written, changed}
@@ -75,7 +75,7 @@ pub record Table : Type 0 where
   pub I-open : reasonOf (opening 30 0 100 50000) (submit 50000 99) ≡ 0
 
 pub table : Table
-unfolding after opening fresh tradeable exposedDays margin pendingIn acceptedIn receivedIn total overDays reasonOf reason2 reason3 reason4 reason5 reason6 inRange reason8 reason9 reason10 reason11 reason12 reason13 reason14 reason15 some change windowOpen cut recut bookOf done written changed shareOf floors spare claim next giveOne give T.total T.largest T.firstLargest
+unfolding after opening tradeableIn exposedDays marginOf pendingIn acceptedIn receivedIn total overDays reasonOf reason2 reason3 reason4 reason5 reason6 inRange reason8 reason9 reason10 reason11 reason12 reason13 reason14 reason15 some change windowOpen cut recut bookOf done written changed shareOf floors spare claim next giveOne give T.total T.largest T.firstLargest
 table = record {
   A = refl;
   B = refl;

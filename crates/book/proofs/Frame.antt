@@ -89,8 +89,7 @@ whole b b′ l t g h = λ i. record { month = months i; accounts = accounts i; l
         (λ p _ i. record {
           roles = h (inAccount p roles) i;
           requirement = h (inAccount p requirement) i;
-          figure = h (inAccount p figure) i;
-          net = h (inAccount p net) i;
+          margin = record { figure = h (inAccount p figure) i; net = h (inAccount p net) i };
         })
 
     levels : b′ .levels ≡ b .levels

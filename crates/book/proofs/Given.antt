@@ -12,8 +12,9 @@ use lib.Dec.{eqb}
 use lib.ListN.{getD, replicate}
 use borrow.Author.Tests.{eqb-false}
 use Rattle.record.specs.declared.Step.{Step}
+use Rattle.record.specs.declared.Step.the-variants.{Open, Window, Register, Requirement, Margin, Create, Terminate, Submit, Withdraw, Accept, AskReversal, AgreeReversal, GeneratorAmends, OperatorAmends}
 use Rattle.book.specs.Book.{Book, fresh, allocation, noAllocation, mostGiven}
-use Rattle.book.specs.Kinds.{is, partyOf, SUBMIT}
+use Rattle.book.specs.Kinds.{is, SUBMIT}
 use Rattle.book.specs.Reasons.{reasonOf}
 use Rattle.book.specs.Cut.{isCut}
 use Rattle.book.specs.Steps.{bookOf}
@@ -35,13 +36,25 @@ grows-step b s r = more (is SUBMIT s) (frame b s r .given)
     more false e = omega arith
 
 -- the number that it gives is one whose quantity it puts
-given-step : (b : Book) (s : Step) (n : ℕ) → reasonOf b s ≡ 0 → puts b s n ≡ false → n ≤ bookOf b s .month .given → n ≤ b .month .given
+put-or-had : (b : Book) (s : Step) (n : ℕ) → puts b s n ≡ false → n ≤ cond (is SUBMIT s) (b .month .given + 1) (b .month .given) → n ≤ b .month .given
 unfolding puts
-given-step b s n r p h = more (is SUBMIT s) refl (frame b s r .given)
-  where
-    more : (c : Bool) → is SUBMIT s ≡ c → bookOf b s .month .given ≡ cond c (b .month .given + 1) (b .month .given) → n ≤ b .month .given
-    more true i e = let other = eqb-false n (b .month .given + 1) (rw i at p) in omega arith
-    more false i e = omega arith
+put-or-had b (Open d q t) n p h = h
+put-or-had b (Window k e t) n p h = h
+put-or-had b (Register a k t) n p h = h
+put-or-had b (Requirement a q t) n p h = h
+put-or-had b (Margin a f t) n p h = h
+put-or-had b (Create a k d q t) n p h = h
+put-or-had b (Terminate a k d q t) n p h = h
+put-or-had b (Submit a c q t) n p h = let other = eqb-false n (b .month .given + 1) p in omega arith
+put-or-had b (Withdraw a m t) n p h = h
+put-or-had b (Accept a m t) n p h = h
+put-or-had b (AskReversal a m t) n p h = h
+put-or-had b (AgreeReversal a m t) n p h = h
+put-or-had b (GeneratorAmends a m q t) n p h = h
+put-or-had b (OperatorAmends a t) n p h = h
+
+given-step : (b : Book) (s : Step) (n : ℕ) → reasonOf b s ≡ 0 → puts b s n ≡ false → n ≤ bookOf b s .month .given → n ≤ b .month .given
+given-step b s n r p h = put-or-had b s n p (rw (frame b s r .given) at h)
 
 grows : (b : Book) (bytes : List ℕ) → b .month .given ≤ recordBook b bytes .month .given
 grows b bytes = by-record (λ b′. b .month .given ≤ b′ .month .given) b bytes (λ d. grows-step b (d .step) (d .reason)) (omega arith)
@@ -66,7 +79,7 @@ unused-step b s r u i h = (λ k. record { generator = stays generator k; custome
     untouched : (f : AllocationPart) → Touched b s i f → ⊥
     untouched f (submitted _ e l) = omega (arith, rw e at (frame b s r .given))
     untouched f (amended _ l) = omega (arith, beyond)
-    untouched f (cut-down _ c) = true≢false (sym c ∙ ap (isCut (partyOf s)) empty ∙ and-false (eqb 0 (partyOf s)))
+    untouched f (cut-down g _ c) = true≢false (sym c ∙ ap (isCut g) empty ∙ and-false (eqb 0 g))
     untouched f (moved _ l) = omega (arith, beyond)
 
     stays : (f : AllocationPart) → SameAllocation f (getD (b .ledger) i noAllocation) (getD (bookOf b s .ledger) i noAllocation)

@@ -17,7 +17,7 @@ use Rattle.book.specs.declared.Status.the-variants as S
 use Rattle.book.specs.Book.{Book, account, allocation, isOpen, isGenerator, isCustomer, isRegistered, statusNumber, participants, mostGiven, mostLevel, mostQuantity, mostFigure}
 use Rattle.book.specs.Words.{pending, accepted, tradeable, excess, levelPlace, level, net}
 use Rattle.book.specs.Kinds.{timeOf}
-use Rattle.book.specs.Reasons.{reasonOf, reason2, reason3, reason5, reason6, inRange, reason9, reason10, reason11, reason12, reason14, reason15, notRegistered, notGiven, from-to, statusAt, quantityAt}
+use Rattle.book.specs.Reasons.{reasonOf, reason2, reason3, reason5, reason6, inRange, reason9, reason10, reason11, reason12, reason14, reason15, notRegistered, notGiven, from-to, quantityAt}
 use Rattle.book.specs.Cut.{withQuantity}
 use Rattle.book.specs.Steps.{opened, numbered, withMonth, withAccount, withLevels, withRoles, withRequirement, withMargin, withStatus, withAllocation, written, done, bookOf}
 use Rattle.book.specs.Run.{usable}
@@ -112,7 +112,7 @@ written-kept b (Margin p f t) u a =
     let o = month-open b u (a .no2) in
     let below = registered-below o p (a .no5) in
     let old = o .accounts p below in
-    account-kept o p below (withMargin f (net b p) (account b p)) (record { roles = old .roles; requirement = old .requirement; figure = leb-true (natAbs (f .0)) mostFigure (a .no7); net = net-within o p below }) (λ h. h) (λ h. h)
+    account-kept o p below (withMargin (record { figure = f; net = record { 0 = net b p } }) (account b p)) (record { roles = old .roles; requirement = old .requirement; figure = leb-true (natAbs (f .0)) mostFigure (a .no7); net = net-within o p below }) (λ h. h) (λ h. h)
 written-kept b (Create p k d q t) u a =
     credits-kept (month-open b u (a .no2)) p k d (q .0) (a .no5) (a .no7) (λ l. l + q .0)
     (λ j l. ltb-false mostLevel (level b p k (d + j) + q .0) (none-of (b .month .days + 1 - d) (λ j. ltb mostLevel (level b p k (d + j) + q .0)) (a .no14) j l))
@@ -121,9 +121,9 @@ written-kept b (Terminate p k d q t) u a =
     credits-kept o p k d (q .0) (a .no5) (a .no7) (λ l. l - q .0) (λ j l. omega (arith, level-most o (levelPlace p k (d + j))))
 written-kept b (Submit g c q t) u a = submit-kept (month-open b u (a .no2)) g c q (a .no6) (search (parts, leb-true)) (a .no11) (a .no12)
 written-kept b (Withdraw p n t) u a = status-kept (month-open b u (a .no2)) p n (a .no5) S.Withdrawn refl (λ h. absurd (false≢true h))
-written-kept b (Accept p n t) u a = status-kept (month-open b u (a .no2)) p n (a .no5) S.Accepted refl (λ _. held-at (allocation b n .status) 1 (submitted (statusAt b n) (a .no9) (a .no10)) refl)
+written-kept b (Accept p n t) u a = status-kept (month-open b u (a .no2)) p n (a .no5) S.Accepted refl (λ _. held-at (allocation b n .status) 1 (submitted (statusNumber (allocation b n .status)) (a .no9) (a .no10)) refl)
 written-kept b (AskReversal p n t) u a =
-    status-kept (month-open b u (a .no2)) p n (a .no5) (S.ReversalAsked t) refl (λ _. held-at (allocation b n .status) 3 (not-false (eqb (statusAt b n) 3) (a .no9)) refl)
+    status-kept (month-open b u (a .no2)) p n (a .no5) (S.ReversalAsked t) refl (λ _. held-at (allocation b n .status) 3 (not-false (eqb (statusNumber (allocation b n .status)) 3) (a .no9)) refl)
 written-kept b (AgreeReversal p n t) u a = status-kept (month-open b u (a .no2)) p n (a .no5) S.Reversed refl (λ h. absurd (false≢true h))
 written-kept b (GeneratorAmends p n q t) u a =
     quantity-kept (month-open b u (a .no2)) p n (a .no5) (q .0)

@@ -2,7 +2,7 @@
 -- leaves the quantity as it was (`unput`), since of the table's rows only those of the three kinds that put one name a quantity. Assumes nothing.
 use mathlib.Core.Path.{_≡_, refl, sym, ap, _∙_}
 use mathlib.Core.Logic.{⊎-elim}
-use mathlib.Core.Bool.{Bool, true, false, _&&_, and-eq-true-iff, true≢false, false≢true}
+use mathlib.Core.Bool.{Bool, true, false, _&&_, _||_, and-eq-true-iff, true≢false, false≢true}
 use mathlib.Core.List.{List}
 use Prim.Native.Nat.{ℕ, _+_, _-_, _≤_, _<_}
 use native.Mathlib.Omega.{arith}
@@ -14,10 +14,10 @@ use Rattle.record.specs.declared.Step.{Step}
 use Rattle.record.specs.declared.Step.the-variants.{Open, Window, Register, Requirement, Margin, Create, Terminate, Submit, Withdraw, Accept, AskReversal, AgreeReversal, GeneratorAmends, OperatorAmends}
 use Rattle.book.specs.declared.Allocation.{Allocation}
 use Rattle.book.specs.declared.Status.the-variants as S
-use Rattle.book.specs.Book.{Book, noAllocation, allocation, statusNumber, participants, levelPlaces, mostGiven}
+use Rattle.book.specs.Book.{Book, noAllocation, allocation, ACCEPTED, REVERSAL-ASKED, participants, levelPlaces, mostGiven}
 use Rattle.book.specs.Words.{tradeable}
 use Rattle.book.specs.Sound.{rightLengths, sound}
-use Rattle.book.specs.Reasons.{reasonOf, reason9, reason11, from-to, statusAt, quantityAt}
+use Rattle.book.specs.Reasons.{reasonOf, reason9, reason11, has, quantityAt}
 use Rattle.book.specs.Cut.{withQuantity}
 use Rattle.book.specs.Steps.{bookOf, done, written}
 use Rattle.book.specs.Run.{usable, recordAnswer, recordBook}
@@ -40,7 +40,7 @@ unput-step b s n h r p =
     shut : Touched b s (n - 1) quantity → quantityAt (bookOf b s) n ≡ quantityAt b n
     shut (submitted e _ _) = absurd (clash e)
     shut (amended e _) = absurd (clash e)
-    shut (cut-down e _) = absurd (clash e)
+    shut (cut-down g e _) = absurd (clash e)
     shut (moved e _) = cc
 
 -- a usable book has a place in its ledger for each of the 256 numbers
@@ -80,7 +80,7 @@ put-step b (AskReversal a m t) n u o e = absurd (false≢true e)
 put-step b (AgreeReversal a m t) n u o e = absurd (false≢true e)
 put-step b (GeneratorAmends a m q t) n u o e =
     let named-one : n ≡ m = eqb-true n m e in
-    let here = in-table (b .ledger) (m - 1) (λ l. from-to 3 4 (statusNumber (l .status))) refl (not-false (from-to 3 4 (statusAt b m)) (o .no9)) in
+    let here = in-table (b .ledger) (m - 1) (λ l. has ACCEPTED l || has REVERSAL-ASKED l) refl (not-false (has ACCEPTED (allocation b m) || has REVERSAL-ASKED (allocation b m)) (o .no9)) in
     rw named-one (set-quantity (b .ledger) (m - 1) (withQuantity (allocation b m) (q .0)) here)
 put-step b (OperatorAmends a t) n u o e = cut-quantity a (tradeable b a) (b .ledger) (n - 1) e
 

@@ -7,7 +7,7 @@ use Rattle.record.specs.declared.Step.{Step}
 use Rattle.record.specs.declared.Step.the-variants.{Requirement, Margin, Accept, Withdraw}
 use Rattle.share.specs.Totals as T
 use Rattle.share.specs.Shares.{shareOf, floors, spare, claim, next, giveOne, give}
-use Rattle.book.specs.Words.{tradeable, exposedDays, margin, pendingIn, acceptedIn, receivedIn, total, overDays}
+use Rattle.book.specs.Words.{tradeable, tradeableIn, exposedDays, marginOf, pendingIn, acceptedIn, receivedIn, total, overDays}
 use Rattle.book.specs.Reasons.{reasonOf, reason2, reason3, reason4, reason5, reason6, inRange, reason8, reason9, reason10, reason11, reason12, reason13, reason14, reason15, some, change, windowOpen}
 use Rattle.book.specs.Cut.{cut, recut}
 use Rattle.book.specs.Steps.{bookOf, done, written, changed}
@@ -34,5 +34,5 @@ pub record Readings : Type 0 where
   pub clock-kept : reasonOf (after (opening 30 0 100000 50000) (Withdraw 0 1 (minute 50) ∷ [])) (submit 50000 0) ≡ 0
 
 pub readings : Readings
-unfolding after opening tradeable exposedDays margin pendingIn acceptedIn receivedIn total overDays reasonOf reason2 reason3 reason4 reason5 reason6 inRange reason8 reason9 reason10 reason11 reason12 reason13 reason14 reason15 some change windowOpen cut recut bookOf done written changed shareOf floors spare claim next giveOne give T.total T.largest T.firstLargest
+unfolding after opening tradeableIn exposedDays marginOf pendingIn acceptedIn receivedIn total overDays reasonOf reason2 reason3 reason4 reason5 reason6 inRange reason8 reason9 reason10 reason11 reason12 reason13 reason14 reason15 some change windowOpen cut recut bookOf done written changed shareOf floors spare claim next giveOne give T.total T.largest T.firstLargest
 readings = record { counted-once = refl; customer-not-tested = refl; over-allowed = refl; largest-remainders = refl; clock-kept = refl }

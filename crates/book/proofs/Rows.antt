@@ -17,6 +17,7 @@ use Rattle.record.specs.declared.Step.{Step}
 use Rattle.record.specs.declared.Step.the-variants.{Open, Window, Register, Requirement, Margin, Create, Terminate, Submit, Withdraw, Accept, AskReversal, AgreeReversal, GeneratorAmends, OperatorAmends}
 use Rattle.share.specs.Shares.{shareOf}
 use Rattle.book.specs.declared.Window as W
+use Rattle.book.specs.declared.Margin as K
 use Rattle.book.specs.declared.Account.{Account}
 use Rattle.book.specs.declared.Allocation.{Allocation}
 use Rattle.book.specs.declared.Status.{Status}
@@ -76,12 +77,12 @@ requires q a p requirement e = inl (ap (λ i. inAccount i requirement) e)
 requires q a p figure e = inr (λ c. refl)
 requires q a p net e = inr (λ c. refl)
 
-margins : (m : Cents) (n : ℤ) (a p : ℕ) (f : AccountPart) → p ≡ a
-    → ((inAccount p f ≡ inAccount a figure) ⊎ (inAccount p f ≡ inAccount a net)) ⊎ ((c : Account) → SameAccount f c (withMargin m n c))
-margins m n a p roles e = inr (λ c. refl)
-margins m n a p requirement e = inr (λ c. refl)
-margins m n a p figure e = inl (inl (ap (λ i. inAccount i figure) e))
-margins m n a p net e = inl (inr (ap (λ i. inAccount i net) e))
+margins : (m : K.Margin) (a p : ℕ) (f : AccountPart) → p ≡ a
+    → ((inAccount p f ≡ inAccount a figure) ⊎ (inAccount p f ≡ inAccount a net)) ⊎ ((c : Account) → SameAccount f c (withMargin m c))
+margins m a p roles e = inr (λ c. refl)
+margins m a p requirement e = inr (λ c. refl)
+margins m a p figure e = inl (inl (ap (λ i. inAccount i figure) e))
+margins m a p net e = inl (inr (ap (λ i. inAccount i net) e))
 
 moves : (s : Status) (i j : ℕ) (f : AllocationPart) → j ≡ i → (inLedger j f ≡ inLedger i status) ⊎ ((a : Allocation) → SameAllocation f a (withStatus s a))
 moves s i j generator e = inr (λ a. refl)
@@ -197,7 +198,7 @@ rows b (Window s e t) o =
     (inr (part SameWindow same-window noWindow _ (b .month .windows) ((s - 1) % 4) (withEnd s (e .0)) (ends (leb s 4) (e .0) ((s - 1) % 4)))) (inl refl) (inl refl) (inl refl))
 rows b (Register a r t) o = row b (Register a r t) refl (search long) (in-account _ b t a (withRoles r) (registers r a))
 rows b (Requirement a q t) o = row b (Requirement a q t) refl (search long) (in-account _ b t a (withRequirement q) (requires q a))
-rows b (Margin a f t) o = row b (Margin a f t) refl (search long) (in-account _ b t a (withMargin f (Words.net b a)) (margins f (Words.net b a) a))
+rows b (Margin a f t) o = row b (Margin a f t) refl (search long) (in-account _ b t a (withMargin (record { figure = f; net = record { 0 = Words.net b a } })) (margins (record { figure = f; net = record { 0 = Words.net b a } }) a))
 rows b (Create a k d q t) o = row b (Create a k d q t) refl (search long) (in-levels b t (λ l. l + q .0) a k d (first-day b k d (q .0) (o .no7)))
 rows b (Terminate a k d q t) o = row b (Terminate a k d q t) refl (search long) (in-levels b t (λ l. l - q .0) a k d (first-day b k d (q .0) (o .no7)))
 rows b (Submit a c q t) o =

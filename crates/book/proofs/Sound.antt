@@ -48,8 +48,8 @@ pub record SoundMonth (m : Month) : Type 0 where
 pub record SoundAccount (a : Account) : Type 0 where
   pub roles : a .roles ≤ 3
   pub requirement : a .requirement .0 ≤ mostQuantity
-  pub figure : natAbs (a .figure .0) ≤ mostFigure
-  pub net : natAbs (a .net .0) ≤ mostNet
+  pub figure : natAbs (a .margin .figure .0) ≤ mostFigure
+  pub net : natAbs (a .margin .net .0) ≤ mostNet
 
 -- a level at a place of the table: 0 on the days after D
 pub record SoundLevel (days place level : ℕ) : Type 0 where
@@ -109,8 +109,7 @@ unfolding isNoAccount
 account-is a h = λ i. record {
   roles = eqb-true (a .roles) 0 (search parts) i;
   requirement = record { 0 = eqb-true (a .requirement .0) 0 (search parts) i };
-  figure = record { 0 = zero-is (a .figure .0) (search parts) i };
-  net = record { 0 = zero-is (a .net .0) (search parts) i };
+  margin = record { figure = record { 0 = zero-is (a .margin .figure .0) (search parts) i }; net = record { 0 = zero-is (a .margin .net .0) (search parts) i } };
 }
 
 pub allocation-is : (a : Allocation) → isNoAllocation a ≡ true → a ≡ noAllocation

@@ -11,7 +11,7 @@ use borrow.Author.Tests.{ltb-false, eqb-false, eq-eqb}
 use Rattle.record.specs.declared.Step.{Step}
 use Rattle.record.specs.declared.Step.the-variants.{Open, Window, Register, Requirement, Margin, Create, Terminate, Submit, Withdraw, Accept, AskReversal, AgreeReversal, GeneratorAmends, OperatorAmends}
 use Rattle.book.specs.Book.{Book, noAllocation}
-use Rattle.book.specs.Kinds.{is, partyOf, SUBMIT}
+use Rattle.book.specs.Kinds.{is, SUBMIT}
 use Rattle.book.specs.Reasons.{reason5, notRegistered, notGiven}
 use Rattle.book.specs.Cut.{isCut}
 use Rattle.book.specs.Frame.{inLedger, AllocationPart, status, Alters}
@@ -25,7 +25,7 @@ pub data Touched (b : Book) (s : Step) (i : ℕ) (f : AllocationPart) : Type 0 w
   -- GENERATOR AMENDS: the one that it names
   amended : puts b s (i + 1) ≡ true → i < b .month .given → Touched b s i f
   -- OPERATOR AMENDS: one that it cuts
-  cut-down : puts b s (i + 1) ≡ true → isCut (partyOf s) (getD (b .ledger) i noAllocation) ≡ true → Touched b s i f
+  cut-down : (g : ℕ) → puts b s (i + 1) ≡ true → isCut g (getD (b .ledger) i noAllocation) ≡ true → Touched b s i f
   -- the others that name one, its status
   moved : f ≡ status → i < b .month .given → Touched b s i f
 
@@ -77,4 +77,4 @@ touched b (OperatorAmends a t) i f o (j, c, e) =
     let it : j ≡ i = cc in
     let here = rw it at c in
     let from-one : i + 1 - 1 ≡ i = omega arith in
-    cut-down (rw from-one here) here
+    cut-down a (rw from-one here) here

@@ -68,13 +68,41 @@ abbrev pub within : ℕ → ℤ → Bool
 within k z = leb (natAbs z) k
 
 -- ---- the statuses, by number
+abbrev pub EMPTY : ℕ
+EMPTY = 0
+
+abbrev pub SUBMITTED : ℕ
+SUBMITTED = 1
+
+abbrev pub WITHDRAWN : ℕ
+WITHDRAWN = 2
+
+abbrev pub ACCEPTED : ℕ
+ACCEPTED = 3
+
+abbrev pub REVERSAL-ASKED : ℕ
+REVERSAL-ASKED = 4
+
+abbrev pub REVERSED : ℕ
+REVERSED = 5
+
 abbrev pub statusNumber : Status → ℕ
-statusNumber Empty = 0
-statusNumber Submitted = 1
-statusNumber Withdrawn = 2
-statusNumber Accepted = 3
-statusNumber (ReversalAsked t) = 4
-statusNumber Reversed = 5
+statusNumber Empty = EMPTY
+statusNumber Submitted = SUBMITTED
+statusNumber Withdrawn = WITHDRAWN
+statusNumber Accepted = ACCEPTED
+statusNumber (ReversalAsked t) = REVERSAL-ASKED
+statusNumber Reversed = REVERSED
+
+-- ---- the roles, by number: 0 is not registered, and 3 has both
+abbrev pub GENERATOR : ℕ
+GENERATOR = 1
+
+abbrev pub CUSTOMER : ℕ
+CUSTOMER = 2
+
+abbrev pub BOTH : ℕ
+BOTH = 3
 
 -- ---- what stands where nothing was written
 abbrev pub noWindow : Window
@@ -84,7 +112,7 @@ abbrev pub noMonth : Month
 noMonth = record { days = 0; price = record { 0 = pos 0 }; last = record { 0 = pos 0 }; given = 0; windows = replicate 4 noWindow }
 
 abbrev pub noAccount : Account
-noAccount = record { roles = 0; requirement = record { 0 = 0 }; figure = record { 0 = pos 0 }; net = record { 0 = pos 0 } }
+noAccount = record { roles = 0; requirement = record { 0 = 0 }; margin = record { figure = record { 0 = pos 0 }; net = record { 0 = pos 0 } } }
 
 -- status 0 EMPTY: all else in the record is 0
 abbrev pub noAllocation : Allocation
@@ -106,10 +134,10 @@ abbrev pub isOpen : Book → Bool
 isOpen b = not (eqb (b .month .days) 0)
 
 abbrev pub isGenerator : Account → Bool
-isGenerator a = eqb (a .roles) 1 || eqb (a .roles) 3
+isGenerator a = eqb (a .roles) GENERATOR || eqb (a .roles) BOTH
 
 abbrev pub isCustomer : Account → Bool
-isCustomer a = eqb (a .roles) 2 || eqb (a .roles) 3
+isCustomer a = eqb (a .roles) CUSTOMER || eqb (a .roles) BOTH
 
 abbrev pub isRegistered : Account → Bool
 isRegistered a = not (eqb (a .roles) 0)

@@ -16,12 +16,13 @@ use Rattle.book.specs.declared.Window as W
 use Rattle.book.specs.declared.Month.{Month}
 use Rattle.book.specs.declared.Account.{Account}
 use Rattle.book.specs.declared.Allocation.{Allocation}
+use Rattle.book.specs.declared.Answer.{Answer}
 use Rattle.book.specs.Book.{Book, account, noWindow, noAllocation}
 use Rattle.book.specs.Words.{levelPlace}
 use Rattle.book.specs.Kinds.{is, timeOf, SUBMIT}
 use Rattle.book.specs.Reasons.{reasonOf}
 use Rattle.book.specs.Cut.{isCut}
-use Rattle.book.specs.Steps.{Answer, numberGiven, bookOf}
+use Rattle.book.specs.Steps.{numberGiven, bookOf}
 use Rattle.book.specs.Run.{usable, recordAnswer, recordBook}
 
 -- ---- the places of a book ("The book"): all but the minute of the last step and the number given, whose values `May` tells
@@ -64,8 +65,8 @@ SameWindow closing w w′ = w′ .closing ≡ w .closing
 abbrev pub SameAccount : AccountPart → Account → Account → Type 0
 SameAccount roles a a′ = a′ .roles ≡ a .roles
 SameAccount requirement a a′ = a′ .requirement ≡ a .requirement
-SameAccount figure a a′ = a′ .figure ≡ a .figure
-SameAccount net a a′ = a′ .net ≡ a .net
+SameAccount figure a a′ = a′ .margin .figure ≡ a .margin .figure
+SameAccount net a a′ = a′ .margin .net ≡ a .margin .net
 
 -- in an allocation record
 abbrev pub SameAllocation : AllocationPart → Allocation → Allocation → Type 0

@@ -8,13 +8,13 @@ use Prim.Native.Nat.{ℕ, zero, suc, _+_, _-_, _≤_, _<_}
 use lib.Dec.{eqb}
 use lib.ListN.{getD}
 use Rattle.record.specs.declared.Step.{Step}
+use Rattle.record.specs.declared.Step.the-variants.{Open, Window, Register, Requirement, Margin, Create, Terminate, Submit, Withdraw, Accept, AskReversal, AgreeReversal, GeneratorAmends, OperatorAmends}
 use Rattle.record.specs.declared.Decoded.{Decoded}
 use Rattle.record.specs.declared.Decoded.the-variants as D
 use Rattle.record.specs.Record.{decodeOf}
 use Rattle.share.specs.Shares.{shareOf}
 use Rattle.book.specs.Book.{Book, allocation}
 use Rattle.book.specs.Words.{tradeable, acceptedIn}
-use Rattle.book.specs.Kinds.{is, partyOf, numberOf, quantityOf, SUBMIT, GENERATOR-AMENDS, OPERATOR-AMENDS}
 use Rattle.book.specs.Reasons.{quantityAt}
 use Rattle.book.specs.Cut.{isCut}
 use Rattle.book.specs.Run.{recordAnswer, bookAfter, answerAt}
@@ -22,18 +22,41 @@ use Rattle.book.specs.Run.{recordAnswer, bookAfter, answerAt}
 -- ---- a step
 -- a done step puts the quantity of allocation n: SUBMIT gives that number, GENERATOR AMENDS names it, OPERATOR AMENDS cuts it ("Does", 8, 13 and 14)
 unfoldable pub puts : Book → Step → ℕ → Bool
-puts b s n =
-    cond (is SUBMIT s) (eqb n (b .month .given + 1))
-    (cond (is GENERATOR-AMENDS s) (eqb n (numberOf s))
-    (cond (is OPERATOR-AMENDS s) (isCut (partyOf s) (allocation b n)) false))
+puts b (Open d p t) n = false
+puts b (Window s e t) n = false
+puts b (Register a r t) n = false
+puts b (Requirement a q t) n = false
+puts b (Margin a f t) n = false
+puts b (Create a k d q t) n = false
+puts b (Terminate a k d q t) n = false
+puts b (Submit a c q t) n = eqb n (b .month .given + 1)
+puts b (Withdraw a m t) n = false
+puts b (Accept a m t) n = false
+puts b (AskReversal a m t) n = false
+puts b (AgreeReversal a m t) n = false
+puts b (GeneratorAmends a m q t) n = eqb n m
+puts b (OperatorAmends a t) n = isCut a (allocation b n)
 
 -- the share of allocation n in the cut of its generator g ("The operator's cut")
 unfoldable pub cutShare : Book → ℕ → ℕ → ℕ
 cutShare b g n = getD (shareOf (map (acceptedIn g) (b .ledger)) (tradeable b g)) (n - 1) 0
 
--- the quantity that it puts there: the step's own, or the share in the cut
+-- the quantity that it puts there: the step's own, or the share in the cut; 0 for a step that puts none
 unfoldable pub quantityPut : Book → Step → ℕ → ℕ
-quantityPut b s n = cond (is OPERATOR-AMENDS s) (cutShare b (partyOf s) n) (quantityOf s)
+quantityPut b (Open d p t) n = 0
+quantityPut b (Window s e t) n = 0
+quantityPut b (Register a r t) n = 0
+quantityPut b (Requirement a q t) n = 0
+quantityPut b (Margin a f t) n = 0
+quantityPut b (Create a k d q t) n = 0
+quantityPut b (Terminate a k d q t) n = 0
+quantityPut b (Submit a c q t) n = q .0
+quantityPut b (Withdraw a m t) n = 0
+quantityPut b (Accept a m t) n = 0
+quantityPut b (AskReversal a m t) n = 0
+quantityPut b (AgreeReversal a m t) n = 0
+quantityPut b (GeneratorAmends a m q t) n = q .0
+quantityPut b (OperatorAmends a t) n = cutShare b a n
 
 -- ---- a record, and a run of them: records stand at 0, 1, 2 .., as in `Run`, and the desk prints 1, 2, 3 .. for their places
 unfoldable pub decodedPuts : Book → Decoded → ℕ → Bool

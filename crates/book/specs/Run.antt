@@ -7,9 +7,10 @@ use Rattle.record.specs.declared.Step.{Step}
 use Rattle.record.specs.declared.Decoded.{Decoded}
 use Rattle.record.specs.declared.Decoded.the-variants as D
 use Rattle.record.specs.Record.{decodeOf}
+use Rattle.book.specs.declared.Answer.{Answer}
 use Rattle.book.specs.Book.{Book}
 use Rattle.book.specs.Sound.{rightLengths, sound}
-use Rattle.book.specs.Steps.{Answer, refusal, answerOf, bookOf}
+use Rattle.book.specs.Steps.{refusal, answerOf, bookOf}
 
 -- 1: record not 24 bytes, kind unknown, unused field not zero
 unfoldable pub decodedAnswer : Book → Decoded → Answer

@@ -34,7 +34,7 @@ unfoldable pub isNoMonth : Month → Bool
 isNoMonth m = eqb (m .days) 0 && (isZero (m .price .0) && (isZero (m .last .0) && (eqb (m .given) 0 && each 4 (λ i. isNoWindow (getD (m .windows) i noWindow)))))
 
 unfoldable pub isNoAccount : Account → Bool
-isNoAccount a = eqb (a .roles) 0 && (eqb (a .requirement .0) 0 && (isZero (a .figure .0) && isZero (a .net .0)))
+isNoAccount a = eqb (a .roles) 0 && (eqb (a .requirement .0) 0 && (isZero (a .margin .figure .0) && isZero (a .margin .net .0)))
 
 unfoldable pub isNoAllocation : Allocation → Bool
 isNoAllocation a = eqb (statusNumber (a .status)) 0 && (eqb (a .generator) 0 && (eqb (a .customer) 0 && eqb (a .quantity .0) 0))
@@ -59,7 +59,7 @@ monthSound m =
 
 -- an account's numbers are inside their limits, and its net at the figure within 640,000,000 of zero
 unfoldable pub accountSound : Account → Bool
-accountSound a = leb (a .roles) 3 && (leb (a .requirement .0) mostQuantity && (within mostFigure (a .figure .0) && within mostNet (a .net .0)))
+accountSound a = leb (a .roles) 3 && (leb (a .requirement .0) mostQuantity && (within mostFigure (a .margin .figure .0) && within mostNet (a .margin .net .0)))
 
 -- a level is at most 10,000,000, and 0 on the days after D; the table has 31 days for each participant and kind
 unfoldable pub levelSound : ℕ → ℕ → ℕ → Bool

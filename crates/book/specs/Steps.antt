@@ -13,8 +13,10 @@ use Rattle.record.specs.declared.Step.{Step}
 use Rattle.record.specs.declared.Step.the-variants.{Open, Window, Register, Requirement, Margin, Create, Terminate, Submit, Withdraw, Accept, AskReversal, AgreeReversal, GeneratorAmends, OperatorAmends}
 use Rattle.book.specs.declared.Window as W
 use Rattle.book.specs.declared.Month.{Month}
+use Rattle.book.specs.declared.Margin as M
 use Rattle.book.specs.declared.Account.{Account}
 use Rattle.book.specs.declared.Allocation.{Allocation}
+use Rattle.book.specs.declared.Answer.{Answer}
 use Rattle.book.specs.declared.Status.{Status}
 use Rattle.book.specs.declared.Status.the-variants as S
 use Rattle.book.specs.Book.{Book, account, allocation, noWindow}
@@ -45,13 +47,13 @@ numbered m = record { days = m .days; price = m .price; last = m .last; given = 
 
 -- REGISTER sets A's roles, REQUIREMENT the requirement, MARGIN figure and present net
 abbrev pub withRoles : ℕ → Account → Account
-withRoles r a = record { roles = r; requirement = a .requirement; figure = a .figure; net = a .net }
+withRoles r a = record { roles = r; requirement = a .requirement; margin = a .margin }
 
 abbrev pub withRequirement : Thousandths → Account → Account
-withRequirement q a = record { roles = a .roles; requirement = q; figure = a .figure; net = a .net }
+withRequirement q a = record { roles = a .roles; requirement = q; margin = a .margin }
 
-abbrev pub withMargin : Cents → ℤ → Account → Account
-withMargin f n a = record { roles = a .roles; requirement = a .requirement; figure = f; net = record { 0 = n } }
+abbrev pub withMargin : M.Margin → Account → Account
+withMargin k a = record { roles = a .roles; requirement = a .requirement; margin = k }
 
 -- an allocation with another status
 abbrev pub withStatus : Status → Allocation → Allocation
@@ -86,7 +88,7 @@ written b (Open d p t) = withMonth (opened d p) b
 written b (Window s e t) = withMonth (windowSet s (e .0)) b
 written b (Register a r t) = withAccount a (withRoles r) b
 written b (Requirement a q t) = withAccount a (withRequirement q) b
-written b (Margin a f t) = withAccount a (withMargin f (net b a)) b
+written b (Margin a f t) = withAccount a (withMargin (record { figure = f; net = record { 0 = net b a } })) b
 written b (Create a k d q t) = withLevels (λ l. l + q .0) a k d b
 written b (Terminate a k d q t) = withLevels (λ l. l - q .0) a k d b
 written b (Submit a c q t) = withAllocation (b .month .given + 1) (λ _. record { generator = a; customer = c; quantity = q; status = S.Submitted }) (withMonth numbered b)
@@ -101,10 +103,6 @@ unfoldable pub done : Book → Step → Book
 done b s = withMonth (atMinute (timeOf s)) (written b s)
 
 -- ---- the answer: the reason, or 0, and the number given, which is 0 but for a done SUBMIT
-pub record Answer : Type 0 where
-  pub reason : ℕ
-  pub number : ℕ
-
 abbrev pub refusal : ℕ → Answer
 refusal r = record { reason = r; number = 0 }
 

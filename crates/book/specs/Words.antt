@@ -6,6 +6,9 @@ use lib.Dec.{eqb}
 use lib.IntN.{ℤ, pos, negsuc, _+ℤ_, _-ℤ_, _*ℤ_}
 use lib.Signed.{ltZ}
 use lib.ListN.{getD}
+use Rattle.units.specs.declared.Minutes.{Minutes}
+use Rattle.book.specs.declared.Month.{Month}
+use Rattle.book.specs.declared.Account.{Account}
 use Rattle.book.specs.declared.Allocation.{Allocation}
 use Rattle.book.specs.declared.Status.{Status}
 use Rattle.book.specs.declared.Status.the-variants.{Empty, Submitted, Withdrawn, Accepted, ReversalAsked, Reversed}
@@ -61,8 +64,11 @@ abbrev pub levelPlace : ℕ → ℕ → ℕ → ℕ
 levelPlace p kind day = p * 124 + (kind - 1) * 31 + (day - 1)
 
 -- credits of a participant, kind and day
+abbrev pub levelIn : List ℕ → ℕ → ℕ → ℕ → ℕ
+levelIn lv p kind day = getD lv (levelPlace p kind day) 0
+
 abbrev pub level : Book → ℕ → ℕ → ℕ → ℕ
-level b p kind day = getD (b .levels) (levelPlace p kind day) 0
+level b = levelIn (b .levels)
 
 -- the sum over days 1 to d
 unfoldable pub overDays : ℕ → (ℕ → ℕ) → ℕ
@@ -70,8 +76,11 @@ overDays zero f = 0
 overDays (suc d) f = overDays d f + f (suc d)
 
 -- tradeable credits: the levels of kinds 1 and 2 summed over days 1 to D, divided by D, rounded down (002, 3.1.2 to 3.1.6)
-unfoldable pub tradeable : Book → ℕ → ℕ
-tradeable b g = (overDays (b .month .days) (level b g 1) + overDays (b .month .days) (level b g 2)) / b .month .days
+unfoldable pub tradeableIn : List ℕ → ℕ → ℕ → ℕ
+tradeableIn lv d g = (overDays d (levelIn lv g 1) + overDays d (levelIn lv g 2)) / d
+
+abbrev pub tradeable : Book → ℕ → ℕ
+tradeable b = tradeableIn (b .levels) (b .month .days)
 
 -- excess: accepted minus tradeable where positive, else 0
 abbrev pub excess : Book → ℕ → ℕ
@@ -87,11 +96,14 @@ exposedDays (pos t) d = min d (t / 1440)
 exposedDays (negsuc t) d = 0
 
 -- margin test (002, section 8) for a change c in net: figure × 10,000 × D + 11 × P × e × (net now + c − net at the figure)
-unfoldable pub margin : Book → ℕ → ℤ → ℤ → ℤ
-margin b p t c =
-    account b p .figure .0 *ℤ pos 10000 *ℤ pos (b .month .days)
-    +ℤ pos 11 *ℤ b .month .price .0 *ℤ pos (exposedDays t (b .month .days)) *ℤ (net b p +ℤ c -ℤ account b p .net .0)
+unfoldable pub marginOf : Month → Account → ℤ → Minutes → ℤ → ℤ
+marginOf m a now t c =
+    a .margin .figure .0 *ℤ pos 10000 *ℤ pos (m .days)
+    +ℤ pos 11 *ℤ m .price .0 *ℤ pos (exposedDays (t .0) (m .days)) *ℤ (now +ℤ c -ℤ a .margin .net .0)
+
+abbrev pub margin : Book → ℕ → Minutes → ℤ → ℤ
+margin b p = marginOf (b .month) (account b p) (net b p)
 
 -- below zero fails; zero passes
-abbrev pub marginFails : Book → ℕ → ℤ → ℤ → Bool
+abbrev pub marginFails : Book → ℕ → Minutes → ℤ → Bool
 marginFails b p t c = ltZ (margin b p t c) (pos 0)

@@ -13,21 +13,27 @@ pub struct Window {
     pub closing: Minutes,
 }
 
-// The month; days is 0 while none is open.
+// The month; days is 0 while none is open. The widest field comes first, so that a copy has no
+// gaps.
 pub struct Month {
-    pub days: u8,
     pub price: Cents,
     pub last: Minutes,
-    pub given: u16,
     pub windows: [Window; 4],
+    pub given: u16,
+    pub days: u8,
+}
+
+// The margin figure of a participant, and its net when the figure was stored.
+pub struct Margin {
+    pub figure: Cents,
+    pub net: Net,
 }
 
 // A participant's account; roles is 0 while it is not registered, 1 generator, 2 customer, 3 both.
 pub struct Account {
     pub roles: u8,
     pub requirement: Thousandths,
-    pub figure: Cents,
-    pub net: Net,
+    pub margin: Margin,
 }
 
 pub enum Status {
@@ -45,6 +51,13 @@ pub struct Allocation {
     pub customer: u8,
     pub quantity: Thousandths,
     pub status: Status,
+}
+
+// The answer to a record: the reason, or 0 where it is done, and the number given, 0 but for a done
+// SUBMIT.
+pub struct Answer {
+    pub reason: u8,
+    pub number: u16,
 }
 
 // No month open.
@@ -71,8 +84,10 @@ pub fn fresh_accounts() -> [Account; 32]
     let a = Account {
         roles: 0,
         requirement: Thousandths(0),
-        figure: Cents(0),
-        net: Net(0),
+        margin: Margin {
+            figure: Cents(0),
+            net: Net(0),
+        },
     };
     [a; 32]
 }

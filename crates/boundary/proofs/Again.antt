@@ -171,8 +171,10 @@ module _ (m : Month) (accounts : List Account) (ledger : List Allocation) (f : B
       λ i. record {
         roles = roles i;
         requirement = record { 0 = requirement i };
-        figure = record { 0 = account-number p 2 (accountPlace p + 2) o (omega arith) refl i };
-        net = record { 0 = account-number p 3 (accountPlace p + 3) o (omega arith) refl i };
+        margin = record {
+          figure = record { 0 = account-number p 2 (accountPlace p + 2) o (omega arith) refl i };
+          net = record { 0 = account-number p 3 (accountPlace p + 3) o (omega arith) refl i };
+        };
       }
 
   record-is : (i : ℕ) → i < mostGiven → allocationAt ns (recordPlace i) ≡ getD ledger i noAllocation

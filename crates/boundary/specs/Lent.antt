@@ -9,7 +9,8 @@ use lib.IntN.{ℤ}
 use lib.ListN.{length}
 use lib.Seq.{sets}
 use Rattle.book.specs.Book.{Book, fresh, levelPlaces}
-use Rattle.book.specs.Steps.{Answer, refusal}
+use Rattle.book.specs.declared.Answer.{Answer}
+use Rattle.book.specs.Steps.{refusal}
 use Rattle.book.specs.Settlement.{Figures, settlementReason, settlement}
 use Rattle.book.specs.Run.{recordAnswer, recordBook, recordsOf, bookAfter}
 use Rattle.ledger.specs.Running.{turnsOf, wordOf, written, answered}

@@ -60,7 +60,7 @@ monthNumbers m =
 
 -- roles, requirement, figure, net at the figure
 abbrev pub accountNumbers : Account → List ℤ
-accountNumbers a = pos (a .roles) ∷ pos (a .requirement .0) ∷ a .figure .0 ∷ a .net .0 ∷ []
+accountNumbers a = pos (a .roles) ∷ pos (a .requirement .0) ∷ a .margin .figure .0 ∷ a .margin .net .0 ∷ []
 
 -- the minute of the asking; 0 unless the status keeps one
 abbrev pub askedNumber : Status → ℤ
@@ -130,8 +130,7 @@ abbrev pub accountAt : List ℤ → ℕ → Account
 accountAt ns i = record {
   roles = counted mostByte (numberAt ns i);
   requirement = record { 0 = counted mostThousandths (numberAt ns (i + 1)) };
-  figure = record { 0 = numberAt ns (i + 2) };
-  net = record { 0 = numberAt ns (i + 3) };
+  margin = record { figure = record { 0 = numberAt ns (i + 2) }; net = record { 0 = numberAt ns (i + 3) } };
 }
 
 -- the status of a number; REVERSAL ASKED keeps the minute

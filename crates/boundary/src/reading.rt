@@ -7,6 +7,7 @@ use crate::fields::minutes_at;
 use crate::fields::number_at;
 use book::Account;
 use book::Allocation;
+use book::Margin;
 use book::Month;
 use book::Status;
 use book::Window;
@@ -62,8 +63,10 @@ fn account_at(book: &[i64], at: usize) -> Account
     Account {
         roles: counted_at(book, at, MOST_BYTE) as u8,
         requirement: Thousandths(counted_at(book, at + 1, MOST_THOUSANDTHS)),
-        figure: Cents(number_at(book, at + 2)),
-        net: Net(number_at(book, at + 3)),
+        margin: Margin {
+            figure: Cents(number_at(book, at + 2)),
+            net: Net(number_at(book, at + 3)),
+        },
     }
 }
 

@@ -32,8 +32,9 @@ fn window_numbers(w: Window) -> [i64; 2]
 fn account_numbers(a: Account) -> [i64; 4]
     ensures { λ r. ⌜ (r ≡ accountNumbers a) × AccountFits a ⌝ }
 {
-    let figure = a.figure.0;
-    let net = a.net.0;
+    let margin = a.margin;
+    let figure = margin.figure.0;
+    let net = margin.net.0;
     [a.roles as i64, a.requirement.0 as i64, figure, net]
 }
 

@@ -10,9 +10,9 @@ use lib.Dec.{eqb, leb, ltb}
 use lib.ListN.{length, List·getD-eq-default}
 use borrow.Author.Tests.{eqb-true, leb-true, ltb-true, ltb-false, eq-eqb, le-leb}
 use Rattle.book.specs.Book.{participants, mostDays, levelPlaces}
-use Rattle.book.specs.Words.{levelPlace, overDays}
+use Rattle.book.specs.Words.{levelPlace, overDays, tradeableIn}
 use Rattle.book.proofs.Tests.{and-left, and-right}
-use Rattle.credits.specs.Credits.{creditDays, tradeableIn, dsmIn, hasRow, tradeableAt, dsmAt}
+use Rattle.credits.specs.Credits.{creditDays, dsmIn, hasRow, tradeableAt, dsmAt}
 
 pub record Row (lv : List ℕ) (d p : ℕ) : Type 0 where
   pub whole : length lv ≡ levelPlaces

@@ -9,16 +9,15 @@ use native.Mathlib.Decide.{decLt}
 use native.Mathlib.Omega.{arith}
 use lib.ListN.{length, getD, List·getD-eq-default}
 use Rattle.book.specs.Book.{Book, mostDays, mostLevel, mostQuantity, levelPlaces}
-use Rattle.book.specs.Words.{levelPlace, tradeable}
+use Rattle.book.specs.Words.{levelPlace, tradeable, tradeableIn}
 use Rattle.book.specs.Settlement.{dsmOf}
 use Rattle.book.proofs.Bounds.{days-most}
-use Rattle.credits.specs.Credits.{creditDays, tradeableIn, dsmIn, hasRow, tradeableAt, dsmAt}
+use Rattle.credits.specs.Credits.{creditDays, dsmIn, hasRow, tradeableAt, dsmAt}
 use Rattle.credits.proofs.Rows.{row-of, tradeable-at, dsm-at}
 
 -- ---- in a book
 module _ (b : Book) (p : ℕ) (whole : length (b .levels) ≡ levelPlaces) (days : b .month .days ≤ mostDays) where
   pub tradeable-in : tradeableAt (b .levels) (b .month .days) p ≡ tradeable b p
-  unfolding tradeableIn tradeable
   tradeable-in = tradeable-at (b .levels) (b .month .days) p whole days
 
   pub dsm-in : dsmAt (b .levels) (b .month .days) p ≡ dsmOf b p

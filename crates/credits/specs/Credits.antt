@@ -5,7 +5,7 @@ use Prim.Native.Nat.{ℕ, _+_, _-_, _/_}
 use lib.Dec.{eqb, leb, ltb}
 use lib.ListN.{length, getD}
 use Rattle.book.specs.Book.{participants, mostDays, levelPlaces}
-use Rattle.book.specs.Words.{levelPlace, overDays}
+use Rattle.book.specs.Words.{levelIn, overDays, tradeableIn}
 
 -- the levels of so many days, from a place on
 abbrev pub overRun : List ℕ → ℕ → ℕ → ℕ
@@ -13,11 +13,7 @@ overRun lv from days = overDays days (λ day. getD lv (from + (day - 1)) 0)
 
 -- the levels of a kind summed over days 1 to d
 abbrev pub creditDays : List ℕ → ℕ → ℕ → ℕ → ℕ
-creditDays lv d p kind = overDays d (λ day. getD lv (levelPlace p kind day) 0)
-
--- tradeable credits
-unfoldable pub tradeableIn : List ℕ → ℕ → ℕ → ℕ
-tradeableIn lv d p = (creditDays lv d p 1 + creditDays lv d p 2) / d
+creditDays lv d p kind = overDays d (levelIn lv p kind)
 
 -- DSM
 unfoldable pub dsmIn : List ℕ → ℕ → ℕ → ℕ

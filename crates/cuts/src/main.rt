@@ -9,6 +9,7 @@ use book::Month;
 use libc::STDIN_FILENO;
 use libc::STDOUT_FILENO;
 use record::Decoded;
+use record::Step;
 use units::Minutes;
 
 // The book so far, the place of the last record done, whether there was a cut, and whether the last
@@ -89,22 +90,26 @@ struct Cut {
     minute: Minutes,
 }
 
+// No cut.
+fn no_cut() -> Cut {
+    Cut {
+        done: false,
+        generator: 0,
+        minute: Minutes(0),
+    }
+}
+
 fn cut_in(said: Decoded, reason: u64) -> Cut {
     match said {
-        Decoded::Step(step) => {
-            let f = record::fields_of(step);
-            let minute = f.minute;
-            Cut {
-                done: f.kind == 14 && reason == 0,
-                generator: f.a,
-                minute,
-            }
-        }
-        Decoded::Refused => Cut {
-            done: false,
-            generator: 0,
-            minute: Minutes(0),
+        Decoded::Step(step) => match step {
+            Step::OperatorAmends { generator, at } => Cut {
+                done: reason == 0,
+                generator,
+                minute: at,
+            },
+            _ => no_cut(),
         },
+        Decoded::Refused => no_cut(),
     }
 }
 

@@ -1,2 +1,2 @@
-pub mod ByKind
-pub mod Passed
+pub mod Chains
+pub mod Split

@@ -1,15 +1,13 @@
--- What a usable book gives the code: its numbers are inside the limits that contracts ask for (`Ready`), so that every step can be judged on it
--- (`judgeable`), and the capped totals of its ledger are the true ones (`totalled`). Of an open book the facts of `Opened` say so, and the fresh one has
--- zero everywhere. Assumes nothing.
+-- What a usable book gives the code: its numbers are inside the limits that contracts ask for (`Ready`), its tables are whole, and the capped totals of
+-- its ledger are the true ones (`totalled`). Of an open book the facts of `Opened` say so, and the fresh one has zero everywhere. Assumes nothing.
 use mathlib.Core.Path.{_≡_, refl, sym, ap, subst, _∙_}
 use mathlib.Core.Bool.{Bool, true, false, and-false}
 use mathlib.Core.List.{List}
 use Prim.Native.Nat.{ℕ, _+_, _-_, _≤_, _<_}
 use native.Mathlib.Decide.{decLt}
 use native.Mathlib.Omega.{arith}
-use lib.ListN.{getD, replicate, List·getD-eq-default}
+use lib.ListN.{length, getD, replicate, List·getD-eq-default}
 use Rattle.units.proofs.Caps.{capped-fits}
-use Rattle.record.specs.declared.form.Fields.{Fields}
 use Rattle.book.specs.declared.Allocation.{Allocation}
 use Rattle.book.specs.Book.{Book, fresh, account, isOpen, noAccount, noAllocation, participants, mostGiven, mostQuantity, mostNet, levelPlaces}
 use Rattle.book.specs.Words.{pendingIn, acceptedIn, receivedIn, total}
@@ -17,11 +15,8 @@ use Rattle.book.specs.Run.{usable}
 use Rattle.book.proofs.Tables.{blank}
 use Rattle.book.proofs.Sums.{total-none}
 use Rattle.book.proofs.Sound.{Opened, opened-of, fresh-of, fresh-lengths}
-use Rattle.book.proofs.Bounds.{pending-most, accepted-most, received-most, price-most}
-use Rattle.reasons.specs.Parts.{slot}
-use Rattle.gate.specs.Gate.{placeOf}
-use Rattle.ledger.specs.Judge.{judgedBy, seenIn}
-use Rattle.ledger.specs.Ready.{LevelsFit, TotalsFit, Totalled, MonthFits, AccountFits, Judgeable}
+use Rattle.book.proofs.Bounds.{pending-most, accepted-most, received-most, price-most, generator-below, customer-below}
+use Rattle.ledger.specs.Ready.{LevelsFit, TotalsFit, Totalled, MonthFits, AccountFits}
 use Rattle.sound.specs.Check.{CappedTotals}
 
 -- what holds of every open book and of the fresh one
@@ -114,13 +109,27 @@ totals-fit b ts u t = record { long = t .long; low = λ i l. by i l (decLt i 32)
         let p : i - 64 < participants = omega arith in
         subst (λ k. getD ts k 0 ≤ mostNet) e (omega (arith, t .received (i - 64) p, low .received (i - 64) p))
 
--- ---- every step can be judged
-pub judgeable : (b : Book) (ts : List ℕ) (f : Fields) → usable b ≡ true → Totalled ts (b .ledger) → Judgeable (b .month) (b .levels) ts (seenIn (b .month) (b .accounts) (b .ledger) f)
-unfolding seenIn
-judgeable b ts f u t = record {
-  month = month-fits b u;
-  levels = levels-fit b u;
-  totals = totals-fit b ts u t;
-  judged = account-fits b u (slot (judgedBy f (getD (b .ledger) (placeOf (b .month) f) noAllocation)));
-  here = quantity-low b u (placeOf (b .month) f);
-}
+-- ---- the tables, and the parties of every record
+pub accounts-long : (b : Book) → usable b ≡ true → length (b .accounts) ≡ participants
+accounts-long = by-kind (λ b. length (b .accounts) ≡ participants) (λ b o. o .lengths .accounts) (fresh-lengths .accounts)
+
+pub ledger-long : (b : Book) → usable b ≡ true → length (b .ledger) ≡ mostGiven
+ledger-long = by-kind (λ b. length (b .ledger) ≡ mostGiven) (λ b o. o .lengths .ledger) (fresh-lengths .ledger)
+
+pub record Parties (a : Allocation) : Type 0 where
+  pub generator : a .generator < participants
+  pub customer : a .customer < participants
+
+pub parties : (b : Book) → usable b ≡ true → (i : ℕ) → Parties (getD (b .ledger) i noAllocation)
+parties = by-kind (λ b. (i : ℕ) → Parties (getD (b .ledger) i noAllocation)) (λ b o i. by b o i (decLt i (b .month .given))) (λ i. rw (blank mostGiven i noAllocation) none)
+  where
+    none : Parties noAllocation
+    none = record { generator = omega arith; customer = omega arith }
+
+    by : (b : Book) → Opened b → (i : ℕ) → Dec (i < b .month .given) → Parties (getD (b .ledger) i noAllocation)
+    by b o i (yes l) = record { generator = generator-below o (o .given i l); customer = customer-below o (o .given i l) }
+    by b o i (no l) = rw (o .later i (omega arith)) none
+
+-- the next record is empty
+pub next-empty : (b : Book) → usable b ≡ true → getD (b .ledger) (b .month .given) noAllocation ≡ noAllocation
+next-empty = by-kind (λ b. getD (b .ledger) (b .month .given) noAllocation ≡ noAllocation) (λ b o. o .later (b .month .given) (omega arith)) (blank mostGiven 0 noAllocation)

@@ -10,7 +10,7 @@ use lib.ListN.{getD, set}
 use lib.Seq.{getD-set-other}
 use Rattle.book.specs.Reasons.{some}
 use Rattle.book.specs.Steps.{changed}
-use Rattle.ledger.specs.Judge.{blocks, blockedIn}
+use Rattle.ledger.specs.Judging.{blocks, blockedIn}
 
 -- one level more to look at
 pub blocked-none : (creates : Bool) (q : ℕ) (lv : List ℕ) (from : ℕ) → blockedIn creates q lv from 0 ≡ false

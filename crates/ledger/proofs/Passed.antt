@@ -1,81 +1,64 @@
--- What the rest of a step may take for granted of one that no reason of 1 to 11 refuses (`gate/proofs/Passed`): a credit step has its numbers inside
--- their ranges, and a done step has passed the gate. Assumes nothing.
-use mathlib.Core.Path.{_≡_}
-use mathlib.Core.Logic.{_⊎_}
-use mathlib.Core.List.{List}
-use Prim.Native.Nat.{ℕ, _-_, _≤_, _<_}
+-- What a step has that is not refused at the door: none of reasons 2 to 11 applies to it, on the book at hand, or on one with the month and the roles
+-- that were seen. Assumes nothing.
+use mathlib.Core.Path.{_≡_, refl}
+use mathlib.Core.Bool.{Bool, true, false}
+use mathlib.Core.List.{[]}
+use Prim.Native.Nat.{ℕ, suc, _-_, _≤_, _<_}
 use native.Mathlib.Omega.{arith}
-use lib.Dec.{eqb}
-use borrow.Author.Tests.{eqb-false}
-use Rattle.record.specs.declared.form.Fields.{Fields}
+use lib.Dec.{eqb, ltb}
+use lib.ListN.{getD-replicate, replicate}
+use borrow.Author.Tests.{not-false, eqb-false, ltb-false}
+use Rattle.record.specs.declared.Step.{Step}
 use Rattle.book.specs.declared.Month.{Month}
 use Rattle.book.specs.declared.Account.{Account}
-use Rattle.book.specs.declared.Allocation.{Allocation}
-use Rattle.book.specs.Book.{mostDays, mostLevel}
-use Rattle.book.proofs.Tests.{parts}
-use Rattle.reasons.specs.Chain.{when, first}
-use Rattle.reasons.specs.Parts.{rolesOf}
-use Rattle.reasons.proofs.Chain.{earlier, when-passes}
-use Rattle.reasons.proofs.Roles.{roles-below}
-use Rattle.gate.specs.Gate.{gateOf}
-use Rattle.gate.proofs.Passed.{between, window-selector, window-end, credit-registered, credit-tests, submit-quantity, submit-number}
-use Rattle.ledger.specs.declared.seen.Seen.{Seen}
-use Rattle.ledger.specs.declared.totals.Totals.{Totals}
-use Rattle.credits.specs.Credits.{tradeableIn}
-use Rattle.ledger.specs.Judge.{totalsAt, lateOf, gateIn, verdictIn}
-use Rattle.ledger.specs.Ready.{SumsFit, CreditFits, LateFits, CreditDone, Judgeable, MonthMove}
+use Rattle.book.specs.Book.{Book, account, allocation, isOpen, isRegistered, noAccount, participants}
+use Rattle.book.specs.Reasons.{early, lowest, notRegistered, notGiven, reason2, reason3, reason4, reason5, reason6, reason7, reason8, reason9, reason10, reason11, inRange}
+use Rattle.book.specs.Run.{usable}
+use Rattle.book.proofs.NoReason.{pass}
+use Rattle.book.proofs.Sound.{Opened, Given, opened-of}
+use Rattle.book.proofs.Bounds.{role-below}
+use Rattle.book.proofs.Tests.{neither}
 
--- a credit step that is not refused yet
-pub credit-inside : (m : Month) (a : Account) (customers : ℕ) (here : Allocation) (f : Fields) → m .days ≤ mostDays → gateOf m (rolesOf (f .a) a) customers here f ≡ 0 → (f .kind ≡ 6) ⊎ (f .kind ≡ 7) → CreditFits m f
-credit-inside m a customers here f days passed k =
-    let t = credit-tests m (rolesOf (f .a) a) customers here f passed k in
-    let kind = between 1 4 (f .selector) (search parts) in
-    let day = between 1 (m .days) (f .day) (search parts) in
-    let quantity = between 1 mostLevel (f .quantity .0) (search parts) in
-    record {
-      party = roles-below (f .a) a (credit-registered m (rolesOf (f .a) a) customers here f passed k);
-      kind-low = kind .0;
-      kind-high = kind .1;
-      day-low = day .0;
-      day-high = day .1;
-      days = days;
-      quantity = quantity .1;
-    }
+pub record Passed (b : Book) (s : Step) : Type 0 where
+  pub no2 : reason2 b s ≡ false
+  pub no5 : reason5 b s ≡ false
+  pub no7 : inRange b s ≡ true
+  pub no11 : reason11 b s ≡ false
 
--- ---- what the rest of a step may take for granted
-module _ (m : Month) (lv ts : List ℕ) (seen : Seen) (f : Fields) where
-  -- reasons 12 to 15
-  pub late-fits : (s : Totals) → Judgeable m lv ts seen → SumsFit s → gateIn m seen f ≡ 0 → LateFits m lv seen f s
-  late-fits s j sums passed = record {
-    month = j .month;
-    levels = j .levels;
-    judged = j .judged;
-    sums = sums;
-    here = j .here;
-    quantity = λ k. submit-quantity m _ _ (seen .here) f passed k .1;
-    credit = credit-inside m (seen .first) _ (seen .here) f (j .month .days) passed;
-  }
+pub passed : (b : Book) (s : Step) → lowest early b s ≡ 0 → Passed b s
+passed b s e =
+    let p2 = pass (reason2 b s) 1 _ e in
+    let p3 = pass (reason3 b s) 2 _ (p2 .later) in
+    let p4 = pass (reason4 b s) 3 _ (p3 .later) in
+    let p5 = pass (reason5 b s) 4 _ (p4 .later) in
+    let p6 = pass (reason6 b s) 5 _ (p5 .later) in
+    let p7 = pass (reason7 b s) 6 _ (p6 .later) in
+    let p8 = pass (reason8 b s) 7 _ (p7 .later) in
+    let p9 = pass (reason9 b s) 8 _ (p8 .later) in
+    let p10 = pass (reason10 b s) 9 _ (p9 .later) in
+    let p11 = pass (reason11 b s) 10 _ (p10 .later) in
+    record { no2 = p2 .no; no5 = p5 .no; no7 = not-false (inRange b s) (p7 .no); no11 = p11 .no }
 
-  -- a done step has passed the gate
-  pub gate-passed : verdictIn m lv ts seen f .reason ≡ 0 → gateIn m seen f ≡ 0
-  unfolding verdictIn first
-  gate-passed done = earlier (gateIn m seen f) _ done
+-- a book with this month in which a participant has these roles
+abbrev pub seenBook : Month → ℕ → ℕ → Book
+seenBook m p roles = record { month = m; accounts = replicate (suc p) (record { roles = roles; requirement = noAccount .requirement; margin = noAccount .margin }); levels = []; ledger = [] }
 
-  pub verdict-month-move : MonthMove m f (verdictIn m lv ts seen f)
-  verdict-month-move = record {
-    selector = λ done. window-selector m _ _ (seen .here) f (gate-passed done);
-    end = λ done. window-end m _ _ (seen .here) f (gate-passed done);
-    given = λ done. submit-number m _ _ (seen .here) f (gate-passed done);
-  }
+pub seen-roles : (m : Month) (p roles : ℕ) → account (seenBook m p roles) p .roles ≡ roles
+seen-roles m p roles = rw (getD-replicate (suc p) p (record { roles = roles; requirement = noAccount .requirement; margin = noAccount .margin }) noAccount (omega arith))
 
-  pub verdict-credit-done : m .days ≤ mostDays → CreditDone m f (verdictIn m lv ts seen f)
-  verdict-credit-done days done = credit-inside m (seen .first) _ (seen .here) f days (gate-passed done)
+-- a number that was given is one of them
+pub given-range : (b : Book) (n : ℕ) → notGiven b n ≡ false → (1 ≤ n) × (n ≤ b .month .given)
+given-range b n e =
+    let g = neither (eqb n 0) (ltb (b .month .given) n) e in
+    let z = eqb-false n 0 (g .0) in
+    (omega arith, ltb-false (b .month .given) n (g .1))
 
-  -- OPERATOR AMENDS: the credits are below what the generator has made
-  pub verdict-excess : verdictIn m lv ts seen f .reason ≡ 0 → f .kind ≡ 14 → verdictIn m lv ts seen f .credits .0 < totalsAt ts (f .a) .made .0
-  unfolding verdictIn lateOf
-  verdict-excess done k =
-      let made : ℕ = totalsAt ts (f .a) .made .0 in
-      let credits : ℕ = tradeableIn lv (m .days) (f .a) in
-      let late : when (eqb (made - credits) 0) 15 ≡ 0 = rw (gate-passed done, k) at done in
-      rw (gate-passed done, k) (omega (arith, eqb-false (made - credits) 0 (when-passes (eqb (made - credits) 0) 15 (omega arith) late)))
+-- ---- on an open book
+module _ {b : Book} (o : Opened b) where
+  -- who is registered has an account
+  pub registered-below : (p : ℕ) → notRegistered b p ≡ false → p < participants
+  registered-below p e = role-below o isRegistered refl p (not-false (isRegistered (account b p)) e)
+
+  -- a number that was given has its record
+  pub given-at : (n : ℕ) → notGiven b n ≡ false → Given (b .accounts) (allocation b n)
+  given-at n e = let r = given-range b n e in o .given (n - 1) (omega arith)

@@ -1,6 +1,5 @@
--- A run, record after record: a step leaves the totals those of the ledger, since it moves them with its record or, after a cut, works them out anew; so
--- each record of a history finds a sound book with the totals of its ledger (`Stands`), and after the last one the book and the answers are the
--- definition's. Assumes nothing.
+-- A run, record after record: a step leaves the totals those of the ledger, so each record of a history finds a sound book with the totals of its ledger
+-- (`Stands`), and after the last one the book and the answers are the definition's. A book that may not be used stays as it was. Assumes nothing.
 use mathlib.Core.Path.{_≡_, refl, sym, ap, subst, _∙_}
 use mathlib.Core.Bool.{true, false}
 use mathlib.Core.List.{List}
@@ -9,28 +8,49 @@ use native.Mathlib.Numerals.{add-one}
 use native.Mathlib.Omega.{arith}
 use lib.ListN.{length, set, length-set}
 use Rattle.record.specs.Record.{decodeOf}
-use Rattle.record.specs.declared.form.Fields.{Fields}
+use Rattle.book.specs.declared.Answer.{Answer}
 use Rattle.book.specs.declared.Month.{Month}
 use Rattle.book.specs.declared.Account.{Account}
 use Rattle.book.specs.declared.Allocation.{Allocation}
 use Rattle.book.specs.Book.{Book}
 use Rattle.book.specs.Run.{usable, recordAnswer, recordBook, recordsOf, bookAfter, answerAt}
-use Rattle.book.proofs.Runs.{record-keeps, after-keeps}
-use Rattle.ledger.specs.declared.after.Stepped.{Stepped}
+use Rattle.book.proofs.Runs.{left, answered as record-answered, after-keeps}
+use Rattle.sound.specs.Check.{bookFrom}
+use Rattle.sound.specs.Checking.{Checks}
+use Rattle.sound.specs.declared.test.Checked.{Checked}
+use Rattle.sound.proofs.Usable.{usable-totals}
+use Rattle.ledger.specs.declared.stepped.Stepped.{Stepped}
 use Rattle.ledger.specs.declared.history.Ran.{Ran}
-use Rattle.ledger.specs.After.{did}
-use Rattle.ledger.specs.Ready.{Totalled}
-use Rattle.sound.specs.Check.{bookFrom, CappedTotals}
-use Rattle.ledger.specs.Leaves.{askedOf, verdictOn, leaves}
-use Rattle.ledger.specs.Inner.{putOf, Able, Steps}
+use Rattle.ledger.specs.Ready.{Totalled, Ready}
+use Rattle.ledger.specs.Rooms.{DoesStep}
+use Rattle.ledger.specs.Writing.{refusedBy}
 use Rattle.ledger.specs.Answering.{Answers}
 use Rattle.ledger.specs.Running.{wordOf, reasonIn, numberIn, turnsOf, written, answered, Does, Runs}
-use Rattle.reasons.proofs.Chain.{either-way}
 use Rattle.ledger.proofs.Fitting.{totalled}
-use Rattle.ledger.proofs.Able.{able, moves-totals}
-use Rattle.ledger.proofs.Stepping.{answers-as}
+
+-- ---- a lent book, once it is checked
+module _ (b : Book) (found : Checked) (c : Checks b found) (h : found .usable ≡ true) where
+  checked-usable : usable b ≡ true
+  checked-usable = sym (c .usable-is) ∙ h
+
+  pub ready-checked : Ready b (found .totals)
+  ready-checked = (checked-usable, totalled b (found .totals) checked-usable (usable-totals b found c h))
+
+-- ---- one record
+module _ (b : Book) (bytes : List ℕ) where
+  -- what a step leaves is the record's
+  pub answers-as : usable b ≡ true → (r : Stepped) (accounts : List Account) (lv : List ℕ) (ledger : List Allocation) (totals : List ℕ) → DoesStep b (decodeOf bytes) r accounts lv ledger totals → Answers b bytes r accounts lv ledger
+  answers-as u r accounts lv ledger totals s = record { book = s .book ∙ sym (left b bytes u); answer = s .answer ∙ sym (record-answered b bytes u) }
+
+  -- a book that is not usable is left as it was, and every record on it is answered 1
+  pub answers-unusable : usable b ≡ false → Answers b bytes (refusedBy 1 (b .month)) (b .accounts) (b .levels) (b .ledger)
+  unfolding recordBook recordAnswer
+  answers-unusable e = record { book = rw e; answer = rw e }
 
 -- ---- the words of the answers
+abbrev wordFor : Answer → ℕ
+wordFor x = wordOf (x .reason) (x .number)
+
 pub written-none : (word : ℕ → ℕ) (room : List ℕ) → room ≡ written word 0 room
 unfolding written
 written-none word room = refl
@@ -56,29 +76,6 @@ reason-back reason number r = omega arith
 pub number-back : (reason number : ℕ) → reason < 32 → number < 65536 → numberIn (wordOf reason number) ≡ number
 number-back reason number r n = omega arith
 
--- ---- one record
--- where nothing is cut the ledger is the one with the step's record
-uncut : (b : Book) (ts : List ℕ) (f : Fields) → did (verdictOn b ts f) f 14 ≡ false → leaves b f (verdictOn b ts f) .ledger ≡ putOf b ts f
-unfolding leaves
-uncut b ts f e = rw e
-
-module _ (b : Book) (bytes ts : List ℕ) (u : usable b ≡ true) (h : Totalled ts (b .ledger)) (r : Stepped) (accounts : List Account) (lv : List ℕ) (ledger : List Allocation) (totals : List ℕ) (s : Steps b ts (askedOf (decodeOf bytes)) r accounts lv ledger totals) where
-  abbrev f : Fields
-  f = askedOf (decodeOf bytes)
-
-  answers : Answers b bytes r accounts lv ledger
-  answers = answers-as b bytes ts u h r accounts lv ledger totals s
-
-  pub totals-stay : Totalled totals ledger
-  totals-stay =
-      either-way (did (verdictOn b ts f) f 14)
-      (λ e. subst (Totalled totals) (sym (answers .ledger-is)) (totalled (recordBook b bytes) totals (record-keeps b bytes u) (subst (CappedTotals totals) (answers .ledger-is) (s .totals-are .0 e))))
-      (λ e. subst (Totalled totals) (sym (s .ledger-is ∙ uncut b ts f e)) (subst (λ x. Totalled x (putOf b ts f)) (sym (s .totals-are .1 e)) (moves-totals b u ts h f)))
-
-  -- the book that is left, whole
-  pub book-left : bookFrom (r .month) accounts lv ledger ≡ recordBook b bytes
-  book-left = λ i. bookFrom (answers .month i) (answers .accounts-are i) (answers .levels-are i) (answers .ledger-is i)
-
 -- ---- a run
 -- where it stands after i records
 pub record Stands (b : Book) (history room : List ℕ) (i : ℕ) (month : Month) (accounts : List Account) (lv : List ℕ) (ledger : List Allocation) (totals answers : List ℕ) : Type 0 where
@@ -98,23 +95,20 @@ module _ (b : Book) (u : usable b ≡ true) (history room : List ℕ) where
     abbrev here : Book
     here = bookFrom month accounts lv ledger
 
-    here-usable : usable here ≡ true
-    here-usable = ap usable (stands .book) ∙ after-keeps b u records i
-
     -- the next record has what it rests on
-    pub able-next : Able here ts (askedOf (decodeOf (records i)))
-    able-next = able here here-usable ts (stands .totals-are) (askedOf (decodeOf (records i)))
+    pub ready-next : Ready here ts
+    ready-next = (ap usable (stands .book) ∙ after-keeps b u records i, stands .totals-are)
 
     -- and once it is answered the run stands one further
-    pub stands-next : (r : Stepped) (accounts′ : List Account) (lv′ : List ℕ) (ledger′ : List Allocation) (ts′ answers′ : List ℕ) → Steps here ts (askedOf (decodeOf (records i))) r accounts′ lv′ ledger′ ts′ → answers′ ≡ set answers i (wordOf (r .answer .reason) (r .answer .number)) → Stands b history room (i + 1) (r .month) accounts′ lv′ ledger′ ts′ answers′
+    pub stands-next : (r : Stepped) (accounts′ : List Account) (lv′ : List ℕ) (ledger′ : List Allocation) (ts′ answers′ : List ℕ) → DoesStep here (decodeOf (records i)) r accounts′ lv′ ledger′ ts′ → answers′ ≡ set answers i (wordOf (r .answer .reason) (r .answer .number)) → Stands b history room (i + 1) (r .month) accounts′ lv′ ledger′ ts′ answers′
     unfolding bookAfter answerAt written
     stands-next r accounts′ lv′ ledger′ ts′ answers′ s w =
-        let answer = answers-as here (records i) ts here-usable (stands .totals-are) r accounts′ lv′ ledger′ ts′ s in
+        let done = answers-as here (records i) (ready-next .0) r accounts′ lv′ ledger′ ts′ s in
         record {
-          book = book-left here (records i) ts here-usable (stands .totals-are) r accounts′ lv′ ledger′ ts′ s ∙ ap (λ x. recordBook x (records i)) (stands .book) ∙ ap (bookAfter b records) (sym (add-one i));
-          totals-are = totals-stay here (records i) ts here-usable (stands .totals-are) r accounts′ lv′ ledger′ ts′ s;
-          answers-are = w ∙ (λ k. set (stands .answers-are k) i (wordOf (answer .reason k) (answer .number k)))
-              ∙ ap (λ x. set (answered b records i room) i (wordOf (recordAnswer x (records i) .reason) (recordAnswer x (records i) .number))) (stands .book) ∙ ap (λ n. answered b records n room) (sym (add-one i));
+          book = done .book ∙ ap (λ x. recordBook x (records i)) (stands .book) ∙ ap (bookAfter b records) (sym (add-one i));
+          totals-are = s .totals;
+          answers-are = w ∙ (λ k. set (stands .answers-are k) i (wordFor (done .answer k)))
+              ∙ ap (λ x. set (answered b records i room) i (wordFor (recordAnswer x (records i)))) (stands .book) ∙ ap (λ n. answered b records n room) (sym (add-one i));
         }
 
     pub stands-done : Does b history room i month accounts lv ledger answers
@@ -138,9 +132,9 @@ module _ (b : Book) (e : usable b ≡ false) (history room : List ℕ) where
   stays zero = refl
   stays (suc n) = ap (λ x. recordBook x (recordsOf history n)) (stays n) ∙ rw e
 
-  refused : (i : ℕ) → wordOf (answerAt b (recordsOf history) i .reason) (answerAt b (recordsOf history) i .number) ≡ 1
+  refused : (i : ℕ) → wordFor (answerAt b (recordsOf history) i) ≡ 1
   unfolding answerAt recordAnswer
-  refused i = ap (λ x. wordOf (recordAnswer x (recordsOf history i) .reason) (recordAnswer x (recordsOf history i) .number)) (stays i) ∙ rw e
+  refused i = ap (λ x. wordFor (recordAnswer x (recordsOf history i))) (stays i) ∙ rw e
 
   pub refused-all : (n : ℕ) (answers : List ℕ) → answers ≡ written (λ i. 1) n room → Does b history room n (b .month) (b .accounts) (b .levels) (b .ledger) answers
   refused-all n answers w = record {

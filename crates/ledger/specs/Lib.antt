@@ -1,7 +1,6 @@
-pub mod Judge
-pub mod After
 pub mod Ready
-pub mod Leaves
-pub mod Inner
+pub mod Writing
+pub mod Judging
+pub mod Rooms
 pub mod Answering
 pub mod Running

@@ -1,6 +1,6 @@
 -- What the code may take for granted of a sound book's numbers, and of the totals that a run keeps beside its ledger. Assumes nothing.
 use mathlib.Core.Path.{_≡_}
-use mathlib.Core.Logic.{_⊎_}
+use mathlib.Core.Bool.{true}
 use mathlib.Core.List.{List}
 use Prim.Native.Nat.{ℕ, _+_, _≤_, _<_}
 use lib.IntN.{natAbs}
@@ -8,13 +8,11 @@ use lib.ListN.{length, getD}
 use Rattle.book.specs.declared.Month.{Month}
 use Rattle.book.specs.declared.Account.{Account}
 use Rattle.book.specs.declared.Allocation.{Allocation}
-use Rattle.book.specs.Book.{noAllocation, mostEnd, mostGiven, mostLevel, mostQuantity, mostNet, mostFigure, mostPrice, participants, levelPlaces}
+use Rattle.book.specs.Book.{Book, noAllocation, mostDays, mostLevel, mostQuantity, mostNet, mostFigure, mostPrice, participants, levelPlaces}
 use Rattle.book.specs.Words.{total, pendingIn, acceptedIn, receivedIn}
+use Rattle.book.specs.Run.{usable}
 use Rattle.reasons.specs.Parts.{pends, counts}
-use Rattle.ledger.specs.declared.seen.Seen.{Seen}
 use Rattle.ledger.specs.declared.totals.Totals.{Totals}
-use Rattle.ledger.specs.declared.judge.Verdict.{Verdict}
-use Rattle.record.specs.declared.form.Fields.{Fields}
 
 -- the table of levels, each at most 10,000,000
 pub record LevelsFit (lv : List ℕ) : Type 0 where
@@ -33,52 +31,24 @@ pub record Totalled (ts : List ℕ) (ledger : List Allocation) : Type 0 where
   pub made : (p : ℕ) → p < participants → getD ts (32 + p) 0 ≡ total (acceptedIn p) ledger
   pub received : (p : ℕ) → p < participants → getD ts (64 + p) 0 ≡ total (receivedIn p) ledger
 
+-- a book that may be used, beside the totals of its ledger
+abbrev pub Ready : Book → List ℕ → Type 0
+Ready b ts = (usable b ≡ true) × Totalled ts (b .ledger)
+
 -- the numbers of a month and of an account that the margin test multiplies
 pub record MonthFits (m : Month) : Type 0 where
-  pub days : m .days ≤ 31
+  pub days : m .days ≤ mostDays
   pub price : natAbs (m .price .0) ≤ mostPrice
 
 pub record AccountFits (a : Account) : Type 0 where
-  pub figure : natAbs (a .figure .0) ≤ mostFigure
-  pub net : natAbs (a .net .0) ≤ mostNet
+  pub figure : natAbs (a .margin .figure .0) ≤ mostFigure
+  pub net : natAbs (a .margin .net .0) ≤ mostNet
 
 -- three totals of one participant
 pub record SumsFit (s : Totals) : Type 0 where
   pub pending : s .pending .0 ≤ mostNet
   pub made : s .made .0 ≤ mostNet
   pub received : s .received .0 ≤ mostNet
-
--- a credit step whose numbers are inside their ranges
-pub record CreditFits (m : Month) (f : Fields) : Type 0 where
-  pub party : f .a < participants
-  pub kind-low : 0 < f .selector
-  pub kind-high : f .selector ≤ 4
-  pub day-low : 0 < f .day
-  pub day-high : f .day ≤ m .days
-  pub days : m .days ≤ 31
-  pub quantity : f .quantity .0 ≤ mostLevel
-
--- what reasons 12 to 15 rest on
-pub record LateFits (m : Month) (lv : List ℕ) (seen : Seen) (f : Fields) (s : Totals) : Type 0 where
-  pub month : MonthFits m
-  pub levels : LevelsFit lv
-  pub judged : AccountFits (seen .judged)
-  pub sums : SumsFit s
-  pub here : seen .here .quantity .0 ≤ mostQuantity
-  pub quantity : f .kind ≡ 8 → f .quantity .0 ≤ mostQuantity
-  pub credit : (f .kind ≡ 6) ⊎ (f .kind ≡ 7) → CreditFits m f
-
--- a done credit step has its numbers inside their ranges
-abbrev pub CreditDone : Month → Fields → Verdict → Type 0
-CreditDone m f v = v .reason ≡ 0 → (f .kind ≡ 6) ⊎ (f .kind ≡ 7) → CreditFits m f
-
--- all that a verdict rests on
-pub record Judgeable (m : Month) (lv ts : List ℕ) (seen : Seen) : Type 0 where
-  pub month : MonthFits m
-  pub levels : LevelsFit lv
-  pub totals : TotalsFit ts
-  pub judged : AccountFits (seen .judged)
-  pub here : seen .here .quantity .0 ≤ mostQuantity
 
 -- a record replaced by one of the same parties, or an empty one filled; the totals hold what the old record gave, and the new one fits
 pub record TotalsMove (ts : List ℕ) (old new : Allocation) : Type 0 where
@@ -89,12 +59,6 @@ pub record TotalsMove (ts : List ℕ) (old new : Allocation) : Type 0 where
   pub counted-made : counts old ≤ getD ts (32 + new .generator) 0
   pub counted-received : counts old ≤ getD ts (64 + new .customer) 0
   pub quantity : new .quantity .0 ≤ mostQuantity
-
--- what a done step may do to the month
-pub record MonthMove (m : Month) (f : Fields) (v : Verdict) : Type 0 where
-  pub selector : v .reason ≡ 0 → f .kind ≡ 2 → 0 < f .selector
-  pub end : v .reason ≡ 0 → f .kind ≡ 2 → natAbs (f .amount .0) ≤ mostEnd
-  pub given : v .reason ≡ 0 → f .kind ≡ 8 → m .given < mostGiven
 
 -- what a cut rests on: quantities inside their limit, and fewer credits than the generator's accepted total
 pub record CutFits (generator credits : ℕ) (ledger : List Allocation) : Type 0 where

@@ -1,18 +1,16 @@
 // A run over a history: every record in turn, on one lent book, and an answer to each.
 ghost use mathlib.Core.Path.{_≡_};
-ghost use mathlib.Core.Bool.{Bool};
 ghost use Prim.Native.Nat.{ℕ, _+_, _/_, _≤_, _<_, min};
 ghost use lib.ListN.{length, set};
-ghost use Rattle.book.specs.Run.{usable};
 ghost use Rattle.sound.specs.Check.{bookFrom};
-ghost use Rattle.ledger.specs.Ready.{Totalled};
+ghost use Rattle.ledger.specs.Ready.{Ready};
 ghost use Rattle.ledger.specs.Running.{wordOf, reasonIn, numberIn, written, Does, Runs};
-use crate::after::Answer;
-use crate::asked::asked;
-use crate::steps::step_on;
+use crate::rooms::do_step;
 use book::Account;
 use book::Allocation;
+use book::Answer;
 use book::Month;
+use record::decode_at;
 
 // What a run leaves beside the lent tables: the month, and how many records it has answered.
 pub struct Ran {
@@ -95,19 +93,19 @@ fn do_records(
     answers: &mut [u64],
     n: usize,
 ) -> Month
-    requires { ⌜ (usable (bookFrom m (now accounts) (now levels) (now ledger)) ≡ Bool.true) × (Totalled (now totals) (now ledger) × (n ≤ length (now answers))) ⌝ }
+    requires { ⌜ Ready (bookFrom m (now accounts) (now levels) (now ledger)) (now totals) × (n ≤ length (now answers)) ⌝ }
     ensures { λ r. ⌜ Does (bookFrom m (now (accounts .entry)) (now (levels .entry)) (now (ledger .entry))) (now (history .entry)) (now (answers .entry)) n r (now (accounts .exit)) (now (levels .exit)) (now (ledger .exit)) (now (answers .exit)) ⌝ }
 {
     let mut month = m;
     let mut i: usize = 0;
     while i < n {
-        let stepped = step_on(
+        let stepped = do_step(
             month,
             &mut *accounts,
             &mut *levels,
             &mut *ledger,
             &mut *totals,
-            asked(history, i),
+            decode_at(history, i),
         );
         month = stepped.month;
         write_answer(&mut *answers, i, stepped.answer);

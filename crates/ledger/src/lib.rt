@@ -1,21 +1,21 @@
 // Steps on a lent book: `step` does or refuses any record on any book, and `run` a whole history.
-// Everything under them is private: each function states its result as an equation with a definition
-// of `specs/`, and `proofs/Placed`, `proofs/Stepping` and `proofs/Running` show that together they
-// are document 01's answers and books.
-mod after; // after.rt: what a step leaves, part by part, from its verdict
-mod asked; // asked.rt: what a record asks
+// A record goes through the gate into one of five rooms, by the part of the book that it alters.
+// A room is given what its kinds read and lent what they may alter, and nothing else.
+mod accounts; // accounts.rt: the account room: REGISTER, REQUIREMENT, MARGIN
+mod credited; // credited.rt: the levels room: CREATE, TERMINATE
 mod cut; // cut.rt: the operator's cut, through the promise of share
+mod cutting; // cutting.rt: the cut room: OPERATOR AMENDS
 mod history; // history.rt: a run over a history
-mod judge; // judge.rt: reasons 12 to 15, and the verdict
 mod lent; // lent.rt: the ledger and the accounts, lent as runs of records
-mod levels; // levels.rt: the table of levels
 mod margin; // margin.rt: the margin test
-mod seen; // seen.rt: what a step sees of the accounts and the ledger
-mod steps; // steps.rt: one step on a lent book
+mod months; // months.rt: the month room: OPEN, WINDOW
+mod rooms; // rooms.rt: a step in its room
+mod stepped; // stepped.rt: the month and the answer that a step leaves
+mod steps; // steps.rt: one record on a lent book
 mod totals; // totals.rt: the totals of each participant
+mod trades; // trades.rt: what a trade is judged by, and what it writes
+mod trading; // trading.rt: the allocation room: SUBMIT to AGREE REVERSAL, GENERATOR AMENDS
 
-pub use after::Answer;
-pub use after::Stepped;
 pub use cut::is_cut;
 pub use cut::weight;
 pub use history::Ran;
@@ -23,4 +23,5 @@ pub use history::Whole;
 pub use history::answer_in;
 pub use history::run;
 pub use history::run_whole;
+pub use stepped::Stepped;
 pub use steps::step;

@@ -2,10 +2,11 @@
 ghost use mathlib.Core.Path.{_≡_};
 ghost use Prim.Native.Nat.{_≤_};
 ghost use lib.IntN.{pos, natAbs, _-ℤ_};
+ghost use lib.Signed.{ltZ};
 ghost use Rattle.book.specs.Book.{mostQuantity};
-ghost use Rattle.book.specs.Words.{exposedDays};
+ghost use Rattle.book.specs.Words.{exposedDays, marginOf};
 ghost use Rattle.book.specs.Reasons.{change};
-ghost use Rattle.ledger.specs.Judge.{marginShort};
+ghost use Rattle.ledger.specs.Judging.{netOf};
 ghost use Rattle.ledger.specs.Ready.{MonthFits, AccountFits, SumsFit};
 use crate::totals::Totals;
 use book::Account;
@@ -40,22 +41,23 @@ pub fn change_of(generator: u8, customer: u8, quantity: Thousandths) -> Net
 }
 
 // Accepted quantity received minus accepted quantity made.
-pub fn net_of(s: Totals) -> Net
-    ensures { λ r. ⌜ r ≡ record { 0 = pos (s .received .0) -ℤ pos (s .made .0) } ⌝ }
+pub fn net_of(received: Thousandths, made: Thousandths) -> Net
+    ensures { λ r. ⌜ r ≡ record { 0 = pos (received .0) -ℤ pos (made .0) } ⌝ }
 {
-    Net(s.received.0 as i64 - s.made.0 as i64)
+    Net(received.0 as i64 - made.0 as i64)
 }
 
 // Whether the margin test fails for a change in net.
 pub fn is_short(m: Month, a: Account, s: Totals, at: Minutes, change: Net) -> bool
     requires { ⌜ MonthFits m × (AccountFits a × (SumsFit s × (natAbs (change .0) ≤ mostQuantity))) ⌝ }
-    ensures { λ r. ⌜ r ≡ marginShort m a s at (change .0) ⌝ }
+    ensures { λ r. ⌜ r ≡ ltZ (marginOf m a (netOf s) at (change .0)) (pos 0) ⌝ }
 {
     let days = m.days as i64;
     let e = exposed(at, m.days) as i64;
-    let net = net_of(s);
-    let moved = net.0 + change.0 - a.net.0;
-    let held = a.figure.0 * 10000 * days;
+    let net = net_of(s.received, s.made);
+    let stored = a.margin;
+    let moved = net.0 + change.0 - stored.net.0;
+    let held = stored.figure.0 * 10000 * days;
     let exposure = 11 * m.price.0 * e * moved;
     held + exposure < 0
 }

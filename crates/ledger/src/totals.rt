@@ -1,7 +1,8 @@
 // The totals of each participant that a run keeps beside its ledger: pending, made and received of
 // participant p at places p, 32 + p and 64 + p of one table.
 ghost use mathlib.Core.Path.{_≡_};
-ghost use Rattle.ledger.specs.Judge.{totalsAt};
+ghost use Prim.Native.Nat.{_-_};
+ghost use Rattle.ledger.specs.Judging.{totalsAt};
 ghost use Rattle.ledger.specs.Ready.{TotalsFit, SumsFit};
 use reasons::PARTICIPANTS;
 use units::Thousandths;
@@ -31,4 +32,14 @@ pub fn totals_of(totals: &[u32], participant: u8) -> Totals
         made: Thousandths(totals[32 + p]),
         received: Thousandths(totals[64 + p]),
     }
+}
+
+// How far one quantity is above another, else 0.
+pub fn above(x: Thousandths, y: Thousandths) -> Thousandths
+    ensures { λ r. ⌜ r .0 ≡ x .0 - y .0 ⌝ }
+{
+    if x.0 < y.0 {
+        return Thousandths(0);
+    }
+    Thousandths(x.0 - y.0)
 }

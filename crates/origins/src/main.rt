@@ -18,10 +18,10 @@ fn show_minute(m: Minutes) {
 // The name of a kind of step that puts a quantity.
 fn show_kind(kind: u8) {
     match kind {
-        8 => {
+        audit::SUBMIT => {
             io::write_all(STDOUT_FILENO, b"SUBMIT");
         }
-        13 => {
+        audit::GENERATOR_AMENDS => {
             io::write_all(STDOUT_FILENO, b"GENERATOR AMENDS");
         }
         _ => {

@@ -3,7 +3,7 @@
 use mathlib.Core.Path.{_≡_}
 use mathlib.Core.Logic.{_⊎_, _≢_, _↔_}
 use mathlib.Core.Bool.{Bool, true, false}
-use mathlib.Core.List.{List, [], _∷_}
+use mathlib.Core.List.{List, map}
 use Prim.Native.Nat.{ℕ, suc, _+_, _-_, _^_, _≤_, _<_}
 use lib.ListN.{getD, replicate}
 use Rattle.units.specs.declared.Minutes.{Minutes}
@@ -16,7 +16,7 @@ use Rattle.record.specs.Bytes.{AreBytes}
 use Rattle.record.specs.Record.{decodeOf, bytesOf}
 use Rattle.book.specs.Book.{Book, fresh, isOpen}
 use Rattle.book.specs.Words.{tradeable}
-use Rattle.book.specs.Reasons.{reason2, reason3, reason4, reason5, reason6, reason7, reason8, reason9, reason10, reason11, reason12, reason13, reason14, reason15, reasonOf}
+use Rattle.book.specs.Reasons.{Line, table, reasonOf}
 use Rattle.book.specs.Steps.{bookOf}
 use Rattle.book.specs.Settlement.{reason16}
 use Rattle.book.specs.Run.{usable, decodedAnswer, decodedBook, recordAnswer, recordBook, recordsOf, bookAfter, answerAt}
@@ -38,9 +38,7 @@ use Rattle.audit.proofs.follow.Statement as follow
 
 -- the tests of reasons 2 to 15 for a step on a book, in the order of the table
 abbrev pub tests : Book → Step → List Bool
-tests b s =
-    reason2 b s ∷ reason3 b s ∷ reason4 b s ∷ reason5 b s ∷ reason6 b s ∷ reason7 b s ∷ reason8 b s
-    ∷ reason9 b s ∷ reason10 b s ∷ reason11 b s ∷ reason12 b s ∷ reason13 b s ∷ reason14 b s ∷ reason15 b s ∷ []
+tests b s = map (λ (l : Line). l .applies b s) table
 
 -- r is the lowest number that applies, where the first of the tests has number n, or it is 0 and none applies
 pub record Lowest (n : ℕ) (ts : List Bool) (r : ℕ) : Type 0 where

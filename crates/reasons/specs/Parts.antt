@@ -4,14 +4,14 @@ use Prim.Native.Nat.{ℕ}
 use lib.Dec.{eqb, ltb}
 use Rattle.book.specs.declared.Account.{Account}
 use Rattle.book.specs.declared.Allocation.{Allocation}
-use Rattle.book.specs.Book.{participants}
+use Rattle.book.specs.Book.{participants, GENERATOR, CUSTOMER, BOTH}
 use Rattle.book.specs.Words.{isPending, isAccepted}
 
 abbrev pub generates : ℕ → Bool
-generates roles = eqb roles 1 || eqb roles 3
+generates roles = eqb roles GENERATOR || eqb roles BOTH
 
 abbrev pub consumes : ℕ → Bool
-consumes roles = eqb roles 2 || eqb roles 3
+consumes roles = eqb roles CUSTOMER || eqb roles BOTH
 
 -- the place of a participant's account; of one past the last, the first place
 abbrev pub slot : ℕ → ℕ

@@ -9,6 +9,59 @@ use book::Account;
 use book::Allocation;
 use book::Status;
 
+// The reasons, by name: 1 is for records, tables and books that say nothing, and 16 for settlement.
+pub const UNUSABLE: u8 = 1;
+
+pub const NO_MONTH: u8 = 2;
+
+pub const ALREADY: u8 = 3;
+
+pub const BEFORE_LAST: u8 = 4;
+
+pub const UNKNOWN: u8 = 5;
+
+pub const WRONG_PARTY: u8 = 6;
+
+pub const OUTSIDE: u8 = 7;
+
+pub const CLOSED: u8 = 8;
+
+pub const WRONG_STATUS: u8 = 9;
+
+pub const WAS_WITHDRAWN: u8 = 10;
+
+pub const ALL_GIVEN: u8 = 11;
+
+pub const NOT_COVERED: u8 = 12;
+
+pub const MARGIN_FAILS: u8 = 13;
+
+pub const LEVEL_PASSED: u8 = 14;
+
+pub const NO_EXCESS: u8 = 15;
+
+pub const EXCESS: u8 = 16;
+
+// The statuses, by number.
+pub const EMPTY: u8 = 0;
+
+pub const SUBMITTED: u8 = 1;
+
+pub const WITHDRAWN: u8 = 2;
+
+pub const ACCEPTED: u8 = 3;
+
+pub const REVERSAL_ASKED: u8 = 4;
+
+pub const REVERSED: u8 = 5;
+
+// The roles, by number; 0 is not registered.
+pub const GENERATOR: u8 = 1;
+
+pub const CUSTOMER: u8 = 2;
+
+pub const BOTH: u8 = 3;
+
 pub const PARTICIPANTS: u8 = 32;
 
 // The most numbers that can be given.
@@ -67,13 +120,13 @@ pub fn negated(x: bool) -> bool
 pub fn is_generator(roles: u8) -> bool
     ensures { λ r. ⌜ r ≡ generates roles ⌝ }
 {
-    either(roles == 1, roles == 3)
+    either(roles == GENERATOR, roles == BOTH)
 }
 
 pub fn is_customer(roles: u8) -> bool
     ensures { λ r. ⌜ r ≡ consumes roles ⌝ }
 {
-    either(roles == 2, roles == 3)
+    either(roles == CUSTOMER, roles == BOTH)
 }
 
 // The place of a participant's account; of one past the last, the first place.
@@ -103,12 +156,12 @@ pub fn number_of(status: Status) -> u8
     ensures { λ r. ⌜ r ≡ statusNumber status ⌝ }
 {
     match status {
-        Status::Empty => 0,
-        Status::Submitted => 1,
-        Status::Withdrawn => 2,
-        Status::Accepted => 3,
-        Status::ReversalAsked(_) => 4,
-        Status::Reversed => 5,
+        Status::Empty => EMPTY,
+        Status::Submitted => SUBMITTED,
+        Status::Withdrawn => WITHDRAWN,
+        Status::Accepted => ACCEPTED,
+        Status::ReversalAsked(_) => REVERSAL_ASKED,
+        Status::Reversed => REVERSED,
     }
 }
 

@@ -14,10 +14,6 @@ mod numbers; // numbers.rt: numbers in bytes
 mod reading; // reading.rt: the step that fields say
 mod writing; // writing.rt: the fields of a step
 
-pub use form::Amount;
-pub use form::Fields;
-pub use writing::fields_of;
-
 // A step of the market's history: one of fourteen kinds, each with its own data.
 pub enum Step {
     Open {

@@ -13,6 +13,9 @@ use crate::figures::has_excess;
 use crate::figures::no_figures;
 use book::Account;
 use book::Month;
+use reasons::EXCESS;
+use reasons::NO_MONTH;
+use reasons::UNUSABLE;
 use reasons::both;
 use reasons::either;
 use sound::Checked;
@@ -110,16 +113,16 @@ fn reason_of(room: bool, found: Checked, m: Month, levels: &[u32]) -> u8
 {
     if both(room, found.usable) {
         if m.days == 0 {
-            return 2;
+            return NO_MONTH;
         }
         let accounts = found.accounts;
         let totals = found.totals;
         if any_excess(m, levels, accounts, totals) {
-            return 16;
+            return EXCESS;
         }
         return 0;
     }
-    1
+    UNUSABLE
 }
 
 // The settlement of a book that was checked.

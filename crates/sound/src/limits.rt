@@ -110,8 +110,9 @@ pub fn month_fits(fresh: bool, m: Month) -> bool
 pub fn account_fits(fresh: bool, a: Account) -> bool
     ensures { λ r. ⌜ r ≡ accountFits fresh a ⌝ }
 {
-    let figure = a.figure;
-    let net = a.net;
+    let margin = a.margin;
+    let figure = margin.figure;
+    let net = margin.net;
     if fresh {
         let margin = both(
             money_in(Cents(0), Cents(0), figure),

@@ -4,6 +4,7 @@ pub mod Calls
 pub mod Function
 pub mod Locals
 pub mod Loop
+pub mod Match
 pub mod Memory
 pub mod Terms
 pub mod Values

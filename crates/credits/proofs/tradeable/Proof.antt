@@ -4,7 +4,8 @@ use mathlib.Core.Path.{sym, _∙_}
 use Prim.Native.Nat.{_+_, _*_, _/_}
 use native.Mathlib.Omega.{arith}
 use borrow.Author.Needs.{needs}
-use Rattle.credits.specs.Credits.{tradeableIn, tradeableAt}
+use Rattle.book.specs.Words.{tradeableIn}
+use Rattle.credits.specs.Credits.{tradeableAt}
 use Rattle.credits.proofs.Runs.{kind-run}
 use Rattle.credits.proofs.Rows.{Row, row-of}
 use Rattle.credits.proofs.tradeable.Statement.{statement}

@@ -38,7 +38,10 @@ run-on-requires : tie.Need-run-on-requires Inv-loop μ-loop
 run-on-requires c κs = search needs
 
 print-answers-requires : tie.Need-print-answers-requires Inv-loop μ-loop
-print-answers-requires c κs = search needs
+print-answers-requires c κs =
+    let l = c .before .before .before .before .before .before .before .before .before .before .before .before in
+    let asked = l .before .before .before .before .before .before .before in
+    search (needs, l .loop .inv, asked .pre)
 
 loop-less : tie.Need-loop-less Inv-loop μ-loop
 loop-less c = search needs

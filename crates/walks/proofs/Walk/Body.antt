@@ -2,7 +2,7 @@
 --     Blocks, env      a block for each local, and the environment of the locals in them
 --     cells E vs       the locals' cells, in order: what each holds, or room for it. Past the end of vs there is room.        dies E       that they are freed, as one item
 --     walks            the triple of a function, from a walk of its body. It begins with what the parameters are (`Function`'s `opened`) and then the locals: so local k stands k places past the former
---     ends             how such a walk ends, at `return`
+--     ends, ends-over  how such a walk ends, at `return`
 --     frames           what `calls` asks of the table of calls, of that of a function's environment
 -- Assumes `Given`.
 use mathlib.Core.Path.{_≡_, refl, sym, subst}
@@ -182,6 +182,17 @@ module _ {M : Type 1} {𝓤 : URA M} {H : Heap 𝓤} {A : Atoms 𝓤} {K : Type 
             use1 W (‵ (fat fullShare (e .0) (e .1) 0 v) ⊛ raw (⋆ 𝓤 H A Γ′)) (pop 𝓤 H A (‵ (fat fullShare (e .0) (e .1) 0 v)) Γ′) $ split ! $ frame ! $ move ! (2 ∷ 0 ∷ []) $ done !))
             (s .prf);
       }
+
+-- the same over a function's locals as they stand in its MIR: for a walk whose locals have large types, which are then never taken apart
+abbrev pub HasResult : List Local → Type 0
+HasResult [] = ⊥
+HasResult (l ∷ ls) = Unit {0}
+
+module _ {M : Type 1} {𝓤 : URA M} {H : Heap 𝓤} {A : Atoms 𝓤} {K : Type 0} {W : Given 𝓤 H A} {C : Calls 𝓤 H} {Λ : Loops 𝓤 H} where
+  pub ends-over : (ls : List Local) (bs : Blocks ls) (c : Terms) (κs : Lfts (refs (c .params))) (qs : Shares (refs (c .params))) (a : Arguments c κs) (vs : List (Option Val)) (r : Of (c .result)) (ws : Left (c .params)) → K → HasResult ls → Fits (c .result) r → Sized (c .params) (passed 0 (c .params) κs a) ws → c .ensures (passed 0 (c .params) κs a) r ws
+      → Seq K W (opened 𝓤 0 (c .params) κs qs a ws ++ (cells 𝓤 H (env 𝓤 H ls bs) (some (c .result .val r) ∷ vs) ++ (‵ (dies 𝓤 H (env 𝓤 H ls bs)) ∷ []))) (runs C Λ (env 𝓤 H ls bs) return (atRet (env 𝓤 H ls bs) (Exit 𝓤 H A c κs qs a)))
+  ends-over [] bs c κs qs a vs r ws t has = absurd has
+  ends-over (l ∷ ls) bs c κs qs a vs r ws t has = ends c κs qs a vs r ws t
 
 -- the table of calls of a function's environment is monotone under a frame
 pub frames : {M : Type 1} (𝓤 : URA M) (H : Heap 𝓤) (𝓜 : Model 𝓤 H) (𝓖 : GhostRules 𝓤 H) (𝓡 : Running 𝓤 H 𝓜) (γ : Named) → FmC 𝓤 H (givenOf 𝓤 H 𝓜 𝓖 .laws) (tables 𝓤 H 𝓜 𝓡 γ .C)

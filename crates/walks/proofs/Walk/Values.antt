@@ -1,7 +1,7 @@
 -- Plain data as the walks cite it: a type that owns only facts, with its one machine value and its laws.
 --     Value            the type's row, the machine value as a function of the denotation, and what is proved of them
 --     Fits X x         x is a value of the type, at its machine value
---     number, boolean, nothing, struct, array      an unsigned number, a truth value, `()`, a declared type (`Struct`), and an array of values
+--     number, boolean, nothing, struct, choice, array      an unsigned number, a truth value, `()`, a declared struct (`Struct`) or enum (`Enum`), and an array of values
 -- Assumes nothing; the laws under a model assume `Given`.
 use Prim.Native.Nat.{ℕ}
 use mathlib.Core.List.{List, [], _∷_, map}
@@ -20,6 +20,9 @@ use denote.Array.{Array, each, arrayVal, array-tells, array-lawful}
 use denote.Struct.Struct.{Plains, layout, struct-pure}
 use denote.Struct.Declared.{Declared, fields, shape, row as row-of}
 use denote.Struct.Laws as LL
+use denote.Enum.Enum.{Plainss, Few, layout as enum-layout}
+use denote.Enum.Declared as ED
+use denote.Enum.Laws as EL
 
 pub record Value : Type 2 where
   pub row : RattleType
@@ -82,6 +85,26 @@ by-value S = layout (shape (S .type))
 
 abbrev pub by-name : Struct → Ty
 by-name S = pointee (row-of (S .type) .written)
+
+-- a declared enum of plain data
+pub record Enum : Type 2 where
+  pub type : ED.Declared
+  pub laws : EL.Laws type
+  pub plain : Plainss (ED.variants type)
+  pub few : Few (ED.shape type)
+
+abbrev pub choice : Enum → Value
+choice E = record {
+  row = ED.row (E .type);
+  val = EL.val (E .type) (E .laws);
+  tells = EL.tells (E .type) (E .laws);
+  pure = EL.pure (E .type) (E .plain);
+  lawful = λ 𝓤 H A W. EL.lawful (E .type) (E .laws) 𝓤 H A W (E .few);
+}
+
+-- its MIR type, by value
+abbrev pub choice-type : Enum → Ty
+choice-type E = enum-layout (ED.shape (E .type))
 
 pub each-pure : (X : Value) (xs : List (Of X)) (us : List Val) → Pure (each (Of X) (X .row .own) xs us)
 each-pure X [] [] = tt

@@ -7,17 +7,17 @@ use borrow.Author.Needs.{needs}
 use lib.ListN.{getD}
 use Rattle.book.specs.Book.{noAllocation}
 use Rattle.sound.proofs.Turns.{Written, written-none, written-more}
-use Rattle.audit.specs.Following.{noPut}
-use Rattle.audit.specs.Putting.{putsBy, putOf}
+use Rattle.audit.specs.Following.{noPut, putOf}
+use Rattle.audit.specs.Putting.{putsBy}
 use Rattle.audit.proofs.origin.put_all.Statement.{statement}
 use Rattle.audit.proofs.origin.put_all.Tie as tie
 
 abbrev Inv-loop : tie.InvT-loop
-Inv-loop f given place ledger puts after₀ i₀ after i =
-    (i ≤ 256) × Written noPut (λ k. cond (putsBy f given (suc k) (getD ledger k noAllocation)) (putOf f place) (getD puts k noPut)) 256 i after
+Inv-loop step given place ledger puts after₀ i₀ after i =
+    (i ≤ 256) × Written noPut (λ k. cond (putsBy step given (suc k) (getD ledger k noAllocation)) (putOf step place) (getD puts k noPut)) 256 i after
 
 abbrev μ-loop : tie.MeasureT-loop
-μ-loop f given place ledger puts after₀ i₀ after i = 256 - i
+μ-loop step given place ledger puts after₀ i₀ after i = 256 - i
 
 loop-holds : tie.Need-loop-holds Inv-loop μ-loop
 loop-holds c = (search needs, written-none _ _ _ (c .good .1 .1 .1 .1 .0 .1 .0 .1))

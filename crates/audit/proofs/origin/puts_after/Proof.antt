@@ -1,4 +1,4 @@
--- `origin::puts_after` meets its contract: a refused record and one that says no step leave what stood there, and a done step puts by its fields.
+-- `origin::puts_after` meets its contract: a refused record and one that says no step leave what stood there, and a done step puts what it puts.
 -- Assumes nothing.
 use mathlib.Core.Path.{_≡_}
 use mathlib.Core.Logic.{_≢_}
@@ -10,14 +10,12 @@ use borrow.Author.Tests.{eq-eqb, ne-eqb}
 use lib.Dec.{eqb}
 use lib.ListN.{length}
 use Rattle.record.specs.declared.Step.{Step}
-use Rattle.record.specs.declared.form.Fields.{Fields}
 use Rattle.record.specs.declared.Decoded.{Decoded}
 use Rattle.record.specs.declared.Decoded.the-variants as D
-use Rattle.record.specs.Record.{written}
 use Rattle.book.specs.declared.Allocation.{Allocation}
 use Rattle.audit.specs.declared.origin.Put.{Put}
-use Rattle.audit.specs.Following.{putIn}
-use Rattle.audit.specs.Putting.{putsBy, putOf, saidPuts, PutEach}
+use Rattle.audit.specs.Following.{putOf, putIn}
+use Rattle.audit.specs.Putting.{putsBy, saidPuts, PutEach}
 use Rattle.audit.proofs.origin.puts_after.Statement.{statement}
 use Rattle.audit.proofs.origin.puts_after.Tie as tie
 
@@ -29,10 +27,10 @@ module _ (said : Decoded) (reason given place : ℕ) (ledger : List Allocation) 
   unfolding saidPuts
   no-step d e = record { long = e; each = λ i _. rw (d, and-false (eqb reason 0)) }
 
-  done : (s : Step) (f : Fields) (r : List Put) → said ≡ D.Step s → f ≡ written s → reason ≡ 0 → PutEach (putsBy f given) ledger (putOf f place) puts r
+  done : (s : Step) (r : List Put) → said ≡ D.Step s → reason ≡ 0 → PutEach (putsBy s given) ledger (putOf s place) puts r
       → PutEach (λ n l. eqb reason 0 && saidPuts said given n l) ledger (putIn place said) puts r
   unfolding saidPuts
-  done s f r d e z p = record { long = p .long; each = λ i o. rw (d, eq-eqb reason 0 z) (rw e at (p .each i o)) }
+  done s r d z p = record { long = p .long; each = λ i o. rw (d, eq-eqb reason 0 z) (p .each i o) }
 
 returns : tie.Need-returns
 returns c =
@@ -41,9 +39,9 @@ returns c =
 
 returns-2 : tie.Need-returns-2
 returns-2 c =
-    let at-match = c .before .before .before .before in
+    let at-match = c .before .before .before in
     let s = at-match .before .before .args in
-    done (s .said) (s .reason) (s .given) (s .place) (s .ledger) (s .puts) _ _ _ (c .before .before .before .said .given .1) (c .before .fields-of .ensures) (at-match .before .if1 .left) (c .put-all .ensures)
+    done (s .said) (s .reason) (s .given) (s .place) (s .ledger) (s .puts) _ _ (c .before .before .said .given .1) (at-match .before .if1 .left) (c .put-all .ensures)
 
 returns-3 : tie.Need-returns-3
 returns-3 c =
@@ -57,7 +55,6 @@ puts-after-spec =
     (tie.spec
     returns
     (λ c. search needs)
-    (λ c κs. search needs)
     (λ c κs. search needs)
     (λ c. search needs)
     returns-2

@@ -13,8 +13,7 @@ returns c =
     λ i. record {
       roles = c .before .before .before .counted-at .ensures .0 i;
       requirement = record { 0 = c .before .before .counted-at2 .ensures .0 i };
-      figure = record { 0 = figure i };
-      net = record { 0 = net i };
+      margin = record { figure = record { 0 = figure i }; net = record { 0 = net i } };
     }
 
 pub account-at-spec : {M : Type 1} → statement M

@@ -7,12 +7,12 @@ use Rattle.boundary.proofs.writing.account_numbers.Tie as tie
 
 returns : tie.Need-returns
 returns c =
-    let a = c .before .before .before .before .args .a in (
+    let a = c .before .before .before .before .before .args .a in (
       rw (
         toZ-pos w64 (a .roles) (search needs),
         toZ-pos w64 (a .requirement .0) (search needs),
-        toZ-ofZ w64 (a .figure .0) (search needs),
-        toZ-ofZ w64 (a .net .0) (search needs),
+        toZ-ofZ w64 (a .margin .figure .0) (search needs),
+        toZ-ofZ w64 (a .margin .net .0) (search needs),
       ),
       record { roles-low = search needs; requirement-low = search needs },
     )

@@ -1,5 +1,5 @@
 -- `cut::cut_to` meets its contract: the weights are what the generator's allocations have of its accepted total, and sharing the credits over them is
--- never refused (`Cutting`), so that the records get their shares. Assumes nothing.
+-- never refused (`CutTo`), so that the records get their shares. Assumes nothing.
 use mathlib.Core.Path.{_≡_, refl, ap, _∙_}
 use mathlib.Core.List.{map}
 use Prim.Native.Nat.{ℕ, _≤_}
@@ -11,7 +11,7 @@ use Rattle.share.specs.Answers.{sharesAfter}
 use Rattle.share.proofs.Promised.{share-long}
 use Rattle.book.specs.Words.{acceptedIn}
 use Rattle.book.specs.Cut.{recut, cut}
-use Rattle.ledger.proofs.Cutting.{cut-shared, share-low}
+use Rattle.ledger.proofs.CutTo.{cut-shared, share-low}
 use Rattle.ledger.proofs.cut.cut_to.Statement.{statement}
 use Rattle.ledger.proofs.cut.cut_to.Tie as tie
 

@@ -1,7 +1,6 @@
 -- `run` meets its contract. The number of records is worked out first, and the test of the book comes with the totals of its ledger; where it may be used, a copy of the totals is lent to `do_records` with the tables, and where it may not, `refuse_all` answers 1 to each record and nothing else is touched.
 -- Assumes nothing.
 use mathlib.Core.Path.{_≡_, refl, sym, ap, _∙_}
-use mathlib.Core.Bool.{true}
 use mathlib.Core.Option.{Option, some, none}
 use Prim.Native.Nat.{ℕ, _+_, _/_, _*_, _^_, _<_, _≤_, min}
 use native.Mathlib.Omega.{arith}
@@ -24,7 +23,6 @@ use denote.Slice.{Room, sliceVal}
 use denote.Triple.Statement.{Triple}
 use denote.Triple.Table.{entered, cited}
 use Rattle.book.specs.Book.{Book}
-use Rattle.book.specs.Run.{usable}
 use Rattle.book.specs.declared.Account.{Account}
 use Rattle.book.specs.declared.Allocation.{Allocation}
 use Rattle.book.specs.declared.Month.{Month}
@@ -32,13 +30,11 @@ use Rattle.sound.specs.Check.{bookFrom}
 use Rattle.sound.specs.Checking.{Checks}
 use Rattle.ledger.specs.Running.{turnsOf}
 use Rattle.sound.specs.declared.test.Checked.{Checked}
-use Rattle.ledger.proofs.Contracts.{Turns, DoRecords, RefuseAll, PackRan, Run}
+use Rattle.ledger.proofs.RunContracts.{Turns, DoRecords, RefuseAll, PackRan, Run}
 use Rattle.sound.proofs.Contracts.{Check}
 use Rattle.sound.proofs.Structs.{account, allocation, month, checked, table, totals-field, totals-fit}
-use Rattle.sound.proofs.Usable.{usable-totals}
-use Rattle.ledger.proofs.Fitting.{totalled}
 use Rattle.ledger.proofs.Records.{ran}
-use Rattle.ledger.proofs.Running.{runs-as, refused-all}
+use Rattle.ledger.proofs.Running.{ready-checked, runs-as, refused-all}
 use Rattle.walks.proofs.Walk.Values.{Of, Fits, Struct, struct, by-value, number}
 use Rattle.walks.proofs.Walk.Terms.{triple}
 use Rattle.walks.proofs.Walk.Calls.{calls, held, owned}
@@ -118,7 +114,7 @@ module _ {M : Type 1} (𝓤 : URA M) (H : Heap 𝓤) (A : Atoms 𝓤) (W : Given
           move ! (19 ∷ []) $ numbers-out ! w32 96 ts b₉ is-ts $ move ! (1 ∷ 3 ∷ 5 ∷ 0 ∷ 7 ∷ 8 ∷ 9 ∷ []) $
           -- [the accounts; the levels; the ledger; the totals; the token of the history, and its reference; the answers; the four open borrows; _0; …; _8; _10; …; _33]
           calls DoRecords ! fm known-do-records ((m, is-m), ((now accounts, ptr accounts, room-a), ((now levels, ptr levels, room-l), ((now ledger, ptr ledger, room-g), ((ts, (b₉, 0), has-room (length ts) long), (held history (κs .1 .1 .1 .0) (qs .1 .1 .1 .0), ((now answers, ptr answers, room-w), ((k, is-k), tt))))))))
-          (sound h, (totalled book ts (sound h) (usable-totals book found e-found h), enough)) (and-then ! (at ! 5 refl) (and-then ! (at ! 25 refl) (and-then ! (at ! 27 refl) (and-then ! (at ! 29 refl) (and-then ! (at ! 31 refl) (and-then ! (at ! 9 refl) (and-then ! (at ! 33 refl) (and-then ! (at ! 11 refl) (no-more !))))))))) (λ after ws e is-after len. gets ! 20 refl (typed month after is-after) $
+          (ready-checked book found e-found h, enough) (and-then ! (at ! 5 refl) (and-then ! (at ! 25 refl) (and-then ! (at ! 27 refl) (and-then ! (at ! 29 refl) (and-then ! (at ! 31 refl) (and-then ! (at ! 9 refl) (and-then ! (at ! 33 refl) (and-then ! (at ! 11 refl) (no-more !))))))))) (λ after ws e is-after len. gets ! 20 refl (typed month after is-after) $
           within ! rest Q $ calls PackRan ! fm known-pack ((after, is-after), ((k, is-k), tt)) tt (and-then ! (at ! 20 refl) (and-then ! (at ! 18 refl) (no-more !))) (λ r _ e-r is-r _. gets ! 30 refl (typed ran r is-r) $ sets ! 11 refl (of-opd ! (at ! 30 refl)) (typed ran r is-r) $
           move ! (3 ∷ []) $ numbers-in ! w32 96 (ws .1 .1 .1 .1 .0) b₉ (len .1 .1 .1 .1 .0 ∙ long) (λ is-z. move ! (1 ∷ 7 ∷ 2 ∷ 8 ∷ 3 ∷ 9 ∷ 4 ∷ 5 ∷ 6 ∷ 10 ∷ 11 ∷ 12 ∷ 13 ∷ 14 ∷ 15 ∷ 16 ∷ 17 ∷ 18 ∷ 19 ∷ 0 ∷ []) $
           ends Run κs qs args (some _ ∷ some _ ∷ some _ ∷ some _ ∷ some _ ∷ some _ ∷ some _ ∷ some _ ∷ some _ ∷ some _ ∷ some _ ∷ some _ ∷ some _ ∷ some _ ∷ some _ ∷ some _ ∷ some _ ∷ some _ ∷ some _ ∷ some _ ∷ some _ ∷ some _ ∷ some _ ∷ some _ ∷ some _ ∷ some _ ∷ some _ ∷ some _ ∷ some _ ∷ some _ ∷ []) r (tt, (ws .1 .0, (ws .1 .1 .0, (ws .1 .1 .1 .0, (tt, (ws .1 .1 .1 .1 .1 .1 .0, tt)))))) ! is-r (tt, (len .1 .0, (len .1 .1 .0, (len .1 .1 .1 .0, (tt, (len .1 .1 .1 .1 .1 .1 .0, tt))))))
@@ -138,9 +134,6 @@ module _ {M : Type 1} (𝓤 : URA M) (H : Heap 𝓤) (A : Atoms 𝓤) (W : Given
 
           long : length ts ≡ 96
           long = is-ts .1 .0 .1
-
-          sound : found .usable ≡ true → usable book ≡ true
-          sound h = sym (e-found .usable-is) ∙ h
 
       testing : (u₁₁ u₁₂ : Val) → Rest 3 (some (vint w64 k) ∷ none ∷ none ∷ none ∷ some u₁₁ ∷ some u₁₂ ∷ [])
       testing u₁₁ u₁₂ =

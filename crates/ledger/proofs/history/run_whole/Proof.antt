@@ -29,7 +29,7 @@ use Rattle.sound.specs.Check.{bookFrom}
 use Rattle.ledger.specs.Running.{Runs}
 use Rattle.ledger.specs.declared.history.Ran.{Ran}
 use Rattle.ledger.specs.declared.history.Whole.{Whole}
-use Rattle.ledger.proofs.Contracts.{Run, PackWhole, RunWhole}
+use Rattle.ledger.proofs.RunContracts.{Run, PackWhole, RunWhole}
 use Rattle.sound.proofs.Structs.{account, allocation, month}
 use Rattle.ledger.proofs.Records.{ran, whole}
 use Rattle.walks.proofs.Walk.Values.{Value, Of, Fits, Struct, struct, by-value, array, number}

@@ -1,5 +1,4 @@
--- `account_at` meets its contract: it is `Element`'s `get`, of an account.
--- Assumes nothing.
+-- `account_at` meets its contract: it is `Element`'s `get`, of an account. Assumes nothing.
 use contract.Running.{givenOf, tables}
 use denote.Triple.Table.{entered}
 use Rattle.book.specs.Book.{noAccount}

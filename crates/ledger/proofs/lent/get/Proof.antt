@@ -1,5 +1,4 @@
--- `get` meets its contract: it is `Element`'s `get`, of an allocation.
--- Assumes nothing.
+-- `get` meets its contract: it is `Element`'s `get`, of an allocation. Assumes nothing.
 use contract.Running.{givenOf, tables}
 use denote.Triple.Table.{entered}
 use Rattle.book.specs.Book.{noAllocation}

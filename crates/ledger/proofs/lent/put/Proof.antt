@@ -1,5 +1,4 @@
--- `put` meets its contract: it is `Element`'s `put`, of an allocation.
--- Assumes nothing.
+-- `put` meets its contract: it is `Element`'s `put`, of an allocation. Assumes nothing.
 use contract.Running.{givenOf, tables}
 use denote.Triple.Table.{entered}
 use Rattle.book.specs.Book.{noAllocation}

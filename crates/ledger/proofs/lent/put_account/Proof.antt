@@ -1,5 +1,4 @@
--- `put_account` meets its contract: it is `Element`'s `put`, of an account.
--- Assumes nothing.
+-- `put_account` meets its contract: it is `Element`'s `put`, of an account. Assumes nothing.
 use contract.Running.{givenOf, tables}
 use denote.Triple.Table.{entered}
 use Rattle.book.specs.Book.{noAccount}

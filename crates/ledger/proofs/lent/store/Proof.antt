@@ -1,5 +1,4 @@
--- `store` meets its contract: it is `Storer`'s, of 256 allocations.
--- Assumes nothing.
+-- `store` meets its contract: it is `Storer`'s, of 256 allocations. Assumes nothing.
 use contract.Running.{givenOf, tables, tablesOf}
 use denote.Triple.Table.{entered}
 use Rattle.book.specs.Book.{noAllocation}

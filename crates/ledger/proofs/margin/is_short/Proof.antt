@@ -7,24 +7,11 @@ use lib.IntN.{pos, _-ℤ_}
 use lib.Signed.{ltZ}
 use mir.Syntax.{w64}
 use Rattle.book.specs.Book.{mostDays, mostPrice, mostQuantity, mostFigure, mostNet}
-use Rattle.book.specs.Words.{exposedDays}
+use Rattle.book.specs.Words.{exposedDays, marginOf}
 use Rattle.book.proofs.Magnitudes.{abs-difference}
-use Rattle.ledger.specs.Judge.{marginIn}
 use Rattle.ledger.proofs.Signed as L
 use Rattle.ledger.proofs.margin.is_short.Statement.{statement}
 use Rattle.ledger.proofs.margin.is_short.Tie as tie
-
-cast-days : tie.Need-cast-days
-cast-days c = search needs
-
-exposed-requires : tie.Need-exposed-requires
-exposed-requires c κs = search needs
-
-cast-e : tie.Need-cast-e
-cast-e c = search needs
-
-net-of-requires : tie.Need-net-of-requires
-net-of-requires c κs = search needs
 
 -- the numbers, each with its bound, and the expressions of them
 module _ (c : tie.After-net-of) where
@@ -38,10 +25,10 @@ module _ (c : tie.After-net-of) where
   price = L.signed w64 (start .args .m .price .0) mostPrice (start .pre .0 .price) tt
 
   abbrev figure : L.Number w64
-  figure = L.signed w64 (start .args .a .figure .0) mostFigure (start .pre .1 .0 .figure) tt
+  figure = L.signed w64 (start .args .a .margin .figure .0) mostFigure (start .pre .1 .0 .figure) tt
 
   abbrev net-at-figure : L.Number w64
-  net-at-figure = L.signed w64 (start .args .a .net .0) mostNet (start .pre .1 .0 .net) tt
+  net-at-figure = L.signed w64 (start .args .a .margin .net .0) mostNet (start .pre .1 .0 .net) tt
 
   abbrev change : L.Number w64
   change = L.signed w64 (start .args .change .0) mostQuantity (start .pre .1 .1 .1) tt
@@ -57,63 +44,49 @@ module _ (c : tie.After-net-of) where
       L.also (L.signed w64 (c .net-of .result .0) mostNet (rw (c .net-of .ensures) (abs-difference _ _ mostNet (sums .received) (sums .made))) tt)
       (pos (start .args .s .received .0) -ℤ pos (start .args .s .made .0)) (ap (λ n. n .0) (c .net-of .ensures))
 
+  abbrev net-after : L.Number w64
+  net-after = L.add net change tt
+
   abbrev moved : L.Number w64
-  moved = L.sub (L.add net change tt) net-at-figure tt
+  moved = L.sub net-after net-at-figure tt
+
+  abbrev scaled : L.Number w64
+  scaled = L.mul figure (L.literal w64 10000 tt) tt
 
   abbrev held : L.Number w64
-  held = L.mul (L.mul figure (L.literal w64 10000 tt) tt) days tt
+  held = L.mul scaled days tt
+
+  abbrev priced : L.Number w64
+  priced = L.mul (L.literal w64 11 tt) price tt
+
+  abbrev daily : L.Number w64
+  daily = L.mul priced exposed tt
 
   abbrev exposure : L.Number w64
-  exposure = L.mul (L.mul (L.mul (L.literal w64 11 tt) price tt) exposed tt) moved tt
+  exposure = L.mul daily moved tt
 
-add-moved : tie.Need-add-moved
-add-moved c = let n = c .before .before .before .before in L.add-fits (net n) (change n) tt
+-- where the numbers stand, from `held` and from `exposure`
+abbrev in-held : tie.After-struct-told4 → tie.After-net-of
+in-held c = c .before .before .before .before .before .before .before .before .before
 
-sub-moved : tie.Need-sub-moved
-sub-moved c = let n = c .before .before .before .before .before .before in L.sub-fits (L.add (net n) (change n) tt) (net-at-figure n) tt
-
-mul-held : tie.Need-mul-held
-mul-held c = let n = c .before .before .before .before .before .before .before .before in L.mul-fits (figure n) (L.literal w64 10000 tt) tt
-
-mul-held-2 : tie.Need-mul-held-2
-mul-held-2 c = let n = c .before .before .before .before .before .before .before .before in L.mul-fits (L.mul (figure n) (L.literal w64 10000 tt) tt) (days n) tt
-
-mul-exposure : tie.Need-mul-exposure
-mul-exposure c = let n = c .before .before .before .before .before .before .before .before .before .before in L.mul-fits (L.literal w64 11 tt) (price n) tt
-
-mul-exposure-2 : tie.Need-mul-exposure-2
-mul-exposure-2 c =
-    let n = c .before .before .before .before .before .before .before .before .before .before in
-    L.mul-fits (L.mul (L.literal w64 11 tt) (price n) tt) (exposed n) tt
-
-mul-exposure-3 : tie.Need-mul-exposure-3
-mul-exposure-3 c =
-    let n = c .before .before .before .before .before .before .before .before .before .before in
-    L.mul-fits (L.mul (L.mul (L.literal w64 11 tt) (price n) tt) (exposed n) tt) (moved n) tt
-
-add-result : tie.Need-add-result
-add-result c = let n = c .before .before .before .before .before .before .before .before .before .before in L.add-fits (held n) (exposure n) tt
+abbrev in-exposure : tie.After-struct-told5 → tie.After-net-of
+in-exposure c = in-held (c .before .before)
 
 returns : tie.Need-returns
-unfolding marginIn
-returns c =
-    let n = c .before .before .before .before .before .before .before .before .before .before in
-    ap (λ z. ltZ z (pos 0)) (L.add (held n) (exposure n) tt .is)
+unfolding marginOf
+returns c = let n = in-exposure c in ap (λ z. ltZ z (pos 0)) (L.add (held n) (exposure n) tt .is)
 
 pub is-short-spec : {M : Type 1} → statement M
 is-short-spec =
     tie.close
     (tie.spec
-    cast-days
-    exposed-requires
-    cast-e
-    net-of-requires
-    add-moved
-    sub-moved
-    mul-held
-    mul-held-2
-    mul-exposure
-    mul-exposure-2
-    mul-exposure-3
-    add-result
+    (λ c. search needs) (λ c κs. search needs) (λ c. search needs) (λ c κs. search needs)
+    (λ c. let n = c .before .before .before .before .before in L.add-fits (net n) (change n) tt)
+    (λ c. let n = c .before .before .before .before .before .before .before in L.sub-fits (net-after n) (net-at-figure n) tt)
+    (λ c. let n = in-held c in L.mul-fits (figure n) (L.literal w64 10000 tt) tt)
+    (λ c. let n = in-held c in L.mul-fits (scaled n) (days n) tt)
+    (λ c. let n = in-exposure c in L.mul-fits (L.literal w64 11 tt) (price n) tt)
+    (λ c. let n = in-exposure c in L.mul-fits (priced n) (exposed n) tt)
+    (λ c. let n = in-exposure c in L.mul-fits (daily n) (moved n) tt)
+    (λ c. let n = in-exposure c in L.add-fits (held n) (exposure n) tt)
     returns)

@@ -5,24 +5,18 @@ use Rattle.ledger.proofs.Signed.{Number, word, sub, sub-fits}
 use Rattle.ledger.proofs.margin.net_of.Statement.{statement}
 use Rattle.ledger.proofs.margin.net_of.Tie as tie
 
-cast-t2 : tie.Need-cast-t2
-cast-t2 c = search needs
-
-cast-t3 : tie.Need-cast-t3
-cast-t3 c = search needs
-
 module _ (c : tie.After-struct-known2) where
   abbrev received : Number w64
-  received = word (c .before .before .args .s .received .0) (c .struct-known2 .given .1 .1 .0 .0)
+  received = word (c .before .before .args .received .0) (c .before .struct-known .given .0)
 
   abbrev made : Number w64
-  made = word (c .before .before .args .s .made .0) (c .struct-known2 .given .1 .0 .0)
+  made = word (c .before .before .args .made .0) (c .struct-known2 .given .0)
 
-sub-t4 : tie.Need-sub-t4
-sub-t4 c = sub-fits (received c) (made c) tt
+sub-t5 : tie.Need-sub-t5
+sub-t5 c = sub-fits (received c) (made c) tt
 
 returns : tie.Need-returns
 returns c = λ i. record { 0 = sub (received c) (made c) tt .is i }
 
 pub net-of-spec : {M : Type 1} → statement M
-net-of-spec = tie.close (tie.spec cast-t2 cast-t3 sub-t4 returns)
+net-of-spec = tie.close (tie.spec (λ c. search needs) (λ c. search needs) sub-t5 returns)

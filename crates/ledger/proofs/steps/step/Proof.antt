@@ -1,4 +1,4 @@
--- `step` meets its contract. The book is checked first (`sound`): where it may be used, the totals that were handed back are those of its ledger and the step is `step_on`'s, and where it may not, nothing is touched.
+-- `step` meets its contract. The book is checked first (`sound`): where it may be used, the totals that were handed back are those of its ledger and the step is `do_step`'s, and where it may not, nothing is touched.
 -- Assumes nothing.
 use mathlib.Core.Path.{_≡_, refl, sym, subst, ap, _∙_}
 use mathlib.Core.Bool.{true, false}
@@ -24,7 +24,7 @@ use denote.Slice.{Room, sliceVal}
 use denote.Triple.Statement.{Triple}
 use denote.Triple.Table.{entered, cited}
 use Rattle.record.specs.Record.{decodeOf}
-use Rattle.record.specs.declared.form.Fields.{Fields}
+use Rattle.record.specs.declared.Decoded.{Decoded}
 use Rattle.book.specs.Book.{Book}
 use Rattle.book.specs.declared.Account.{Account}
 use Rattle.book.specs.declared.Allocation.{Allocation}
@@ -34,15 +34,15 @@ use Rattle.sound.specs.Checking.{Checks}
 use Rattle.sound.specs.declared.test.Checked.{Checked}
 use Rattle.sound.proofs.Contracts.{Check}
 use Rattle.sound.proofs.Structs.{account, allocation, month, checked, table, totals-field, totals-fit}
-use Rattle.sound.proofs.Usable.{usable-totals}
 use Rattle.ledger.specs.Answering.{Answers}
-use Rattle.ledger.specs.Inner.{Able, Steps}
-use Rattle.ledger.specs.Leaves.{askedOf}
-use Rattle.ledger.specs.declared.after.Stepped.{Stepped}
-use Rattle.ledger.proofs.Contracts.{AskedBy, StepOn, Unusable, Step}
-use Rattle.ledger.proofs.Records.{fields, stepped}
-use Rattle.ledger.proofs.Stepping.{able-for, answers-done, answers-unusable}
-use Rattle.walks.proofs.Walk.Values.{Of, Fits, Struct, struct, by-value, number}
+use Rattle.ledger.specs.Rooms.{DoesStep}
+use Rattle.ledger.specs.Writing.{refusedBy}
+use Rattle.ledger.specs.declared.stepped.Stepped.{Stepped}
+use Rattle.ledger.proofs.RoomContracts.{DoStep, Refused}
+use Rattle.ledger.proofs.RunContracts.{Decode, Step}
+use Rattle.ledger.proofs.Records.{decoded, stepped}
+use Rattle.ledger.proofs.Running.{ready-checked, answers-as, answers-unusable}
+use Rattle.walks.proofs.Walk.Values.{Of, Fits, Struct, struct, choice, by-value, number}
 use Rattle.walks.proofs.Walk.Terms.{triple}
 use Rattle.walks.proofs.Walk.Calls.{calls, held, owned}
 use Rattle.walks.proofs.Walk.Function.{Exit}
@@ -54,15 +54,15 @@ use Rattle.walks.proofs.Walk.Parts.{From}
 use Rattle.sound.proofs.check.Symbol as check-def
 use Rattle.sound.proofs.check.Symbol.{name as #sound·check}
 use Rattle.sound.proofs.check.Met as check-thm
-use Rattle.ledger.proofs.asked.asked_by.Symbol as asked-by-def
-use Rattle.ledger.proofs.asked.asked_by.Symbol.{name as #ledger·asked·asked-by}
-use Rattle.ledger.proofs.asked.asked_by.Met as asked-by-thm
-use Rattle.ledger.proofs.steps.step_on.Symbol as step-on-def
-use Rattle.ledger.proofs.steps.step_on.Symbol.{name as #ledger·steps·step-on}
-use Rattle.ledger.proofs.steps.step_on.Met as step-on-thm
-use Rattle.ledger.proofs.after.unusable.Symbol as unusable-def
-use Rattle.ledger.proofs.after.unusable.Symbol.{name as #ledger·after·unusable}
-use Rattle.ledger.proofs.after.unusable.Met as unusable-thm
+use Rattle.record.proofs.decode.Symbol as decode-def
+use Rattle.record.proofs.decode.Symbol.{name as #record·decode}
+use Rattle.record.proofs.decode.Met as decode-thm
+use Rattle.ledger.proofs.rooms.do_step.Symbol as do-step-def
+use Rattle.ledger.proofs.rooms.do_step.Symbol.{name as #ledger·rooms·do-step}
+use Rattle.ledger.proofs.rooms.do_step.Met as do-step-thm
+use Rattle.ledger.proofs.stepped.refused.Symbol as refused-def
+use Rattle.ledger.proofs.stepped.refused.Symbol.{name as #ledger·stepped·refused}
+use Rattle.ledger.proofs.stepped.refused.Met as refused-thm
 use Rattle.ledger.proofs.steps.step.Key.{name as #ledger·steps·step}
 use Rattle.ledger.proofs.steps.step.Statement as stated
 use Rattle.ledger.proofs.steps.step.Code as code
@@ -71,7 +71,7 @@ use Rattle.ledger.proofs.steps.step.Code as code
 has-room : (n : ℕ) → n ≡ 96 → (n < 2 ^ 64) × (n * 4 < 2 ^ 63)
 has-room n e = omega (arith, e)
 
-module _ {M : Type 1} (𝓤 : URA M) (H : Heap 𝓤) (A : Atoms 𝓤) (W : Given 𝓤 H A) (C : Calls 𝓤 H) (Λ : Loops 𝓤 H) (fm : FmC 𝓤 H (W .laws) C) (known-check : Triple 𝓤 (C #sound·check) (triple 𝓤 H A Check)) (known-asked-by : Triple 𝓤 (C #ledger·asked·asked-by) (triple 𝓤 H A AskedBy)) (known-step-on : Triple 𝓤 (C #ledger·steps·step-on) (triple 𝓤 H A StepOn)) (known-unusable : Triple 𝓤 (C #ledger·after·unusable) (triple 𝓤 H A Unusable)) where
+module _ {M : Type 1} (𝓤 : URA M) (H : Heap 𝓤) (A : Atoms 𝓤) (W : Given 𝓤 H A) (C : Calls 𝓤 H) (Λ : Loops 𝓤 H) (fm : FmC 𝓤 H (W .laws) C) (known-check : Triple 𝓤 (C #sound·check) (triple 𝓤 H A Check)) (known-decode : Triple 𝓤 (C #record·decode) (triple 𝓤 H A Decode)) (known-do-step : Triple 𝓤 (C #ledger·rooms·do-step) (triple 𝓤 H A DoStep)) (known-refused : Triple 𝓤 (C #ledger·stepped·refused) (triple 𝓤 H A Refused)) where
   typed : (S : Struct) (x : Of (struct S)) → Fits (struct S) x → Holds (hasTy (by-value S) (struct S .val x)) × WT (struct S .val x)
   typed S x is = struct S .lawful 𝓤 H A W .typed x _ is .0
 
@@ -108,14 +108,10 @@ module _ {M : Type 1} (𝓤 : URA M) (H : Heap 𝓤) (A : Atoms 𝓤) (W : Given
       long : length ts ≡ 96
       long = is-ts .1 .0 .1
 
-      module _ (h : found .usable ≡ true) where
-        able : (f : Fields) → f ≡ askedOf (decodeOf (now bytes)) → Able book ts f
-        able f e-f = subst (Able book ts) (sym e-f) (able-for book (now bytes) ts (sym (c .usable-is) ∙ h) (usable-totals book found c h))
+      done-as : found .usable ≡ true → (d : Decoded) → d ≡ decodeOf (now bytes) → (r : Stepped) (xs : List Account) (ls : List ℕ) (gs : List Allocation) (zs : List ℕ) → DoesStep book d r xs ls gs zs → Answers book (now bytes) r xs ls gs
+      done-as h d e-d r xs ls gs zs s = answers-as book (now bytes) (ready-checked book found c h .0) r xs ls gs zs (subst (λ (x : Decoded). DoesStep book x r xs ls gs zs) e-d s)
 
-        done-as : (f : Fields) → f ≡ askedOf (decodeOf (now bytes)) → (r : Stepped) (xs : List Account) (ls : List ℕ) (gs : List Allocation) (zs : List ℕ) → Steps book ts f r xs ls gs zs → Answers book (now bytes) r xs ls gs
-        done-as f e-f r xs ls gs zs s = answers-done book (now bytes) ts (sym (c .usable-is) ∙ h) (usable-totals book found c h) r xs ls gs zs (subst (λ (x : Fields). Steps book ts x r xs ls gs zs) e-f s)
-
-      refused : found .usable ≡ false → (r : Stepped) → r ≡ record { month = m; answer = record { reason = 1; number = 0 } } → Answers book (now bytes) r (now accounts) (now levels) (now ledger)
+      refused : found .usable ≡ false → (r : Stepped) → r ≡ refusedBy 1 m → Answers book (now bytes) r (now accounts) (now levels) (now ledger)
       refused h r e-r = subst (λ (x : Stepped). Answers book (now bytes) x (now accounts) (now levels) (now ledger)) (sym e-r) (answers-unusable book (now bytes) (sym (c .usable-is) ∙ h))
 
       branching : (u₈ u₉ u₁₀ u₁₁ u₁₂ u₁₃ : Val) → Rest 8 (some (struct checked .val found) ∷ none ∷ some u₈ ∷ some u₉ ∷ some u₁₀ ∷ some u₁₁ ∷ some u₁₂ ∷ some u₁₃ ∷ some (vbool (found .usable)) ∷ [])
@@ -125,18 +121,18 @@ module _ {M : Type 1} (𝓤 : URA M) (H : Heap 𝓤) (A : Atoms 𝓤) (W : Given
           sets ! 26 refl (start ! 11 refl refl) (tt, tt) $ sets ! 27 refl (agg ! (and-then ! (at ! 26 refl) (and-then ! (count ! 11 refl refl) (no-more !)))) (tt, (tt, (record { fits = room-l .0 }, tt))) $
           sets ! 28 refl (start ! 12 refl refl) (tt, tt) $ sets ! 29 refl (agg ! (and-then ! (at ! 28 refl) (and-then ! (count ! 12 refl refl) (no-more !)))) (tt, (tt, (record { fits = room-g .0 }, tt))) $
           sets ! 30 refl (addr ! (from ! (stop !))) (tt, tt) $ sets ! 31 refl (agg ! (and-then ! (at ! 30 refl) (and-then ! (lit ! tt) (no-more !)))) (tt, (tt, (record { fits = lit< tt }, tt))) $ reads-as ! 31 refl (ap (sliceVal (b₇, 0)) (sym long)) $
-          move ! (6 ∷ 7 ∷ []) $ calls AskedBy ! fm known-asked-by (held bytes κ‴ q‴, tt) tt (reading ! 6 (5 ∷ []) (refl, tt)) (λ f _ e-f is-f _. gets ! 32 refl (typed fields f is-f) $
+          move ! (6 ∷ 7 ∷ []) $ calls Decode ! fm known-decode (held bytes κ‴ q‴, tt) tt (reading ! 6 (5 ∷ []) (refl, tt)) (λ d _ e-d is-d _. gets ! 32 refl (choice decoded .lawful 𝓤 H A W .typed d _ is-d .0) $
           within ! rest Q $ move ! (15 ∷ []) $ numbers-out ! w32 96 ts b₇ is-ts $ move ! (3 ∷ 5 ∷ 7 ∷ 0 ∷ []) $
           -- [the accounts; the levels; the ledger; the totals; the bytes, and their token; the three open borrows; _0; …; _6; _8; …; _24]
-          calls StepOn ! fm known-step-on ((m, is-m), ((now accounts, ptr accounts, room-a), ((now levels, ptr levels, room-l), ((now ledger, ptr ledger, room-g), ((ts, (b₇, 0), has-room (length ts) long), ((f, is-f), tt)))))) (able h f e-f)
+          calls DoStep ! fm known-do-step ((m, is-m), ((now accounts, ptr accounts, room-a), ((now levels, ptr levels, room-l), ((now ledger, ptr ledger, room-g), ((ts, (b₇, 0), has-room (length ts) long), ((d, is-d), tt)))))) (ready-checked book found c h)
           (and-then ! (at ! 6 refl) (reading ! 4 (17 ∷ 19 ∷ 21 ∷ 23 ∷ 24 ∷ []) (refl, (refl, (refl, (refl, (refl, tt))))))) (λ r ws e-r is-r len. gets ! 23 refl (typed stepped r is-r) $
           sets ! 9 refl (of-opd ! (at ! 23 refl)) (typed stepped r is-r) $ move ! (3 ∷ []) $ numbers-in ! w32 96 (ws .1 .1 .1 .1 .0) b₇ (len .1 .1 .1 .1 .0 ∙ long) (λ is-z.
           move ! (1 ∷ 6 ∷ 2 ∷ 7 ∷ 3 ∷ 8 ∷ 4 ∷ 5 ∷ 9 ∷ 10 ∷ 11 ∷ 12 ∷ 13 ∷ 14 ∷ 15 ∷ 0 ∷ []) $
           ends Step (κ, (κ′, (κ″, (κ‴, tt)))) (q, (q′, (q″, (q‴, tt)))) (m, (accounts, (levels, (ledger, (bytes, tt))))) (some _ ∷ some _ ∷ some _ ∷ some _ ∷ some _ ∷ some _ ∷ some _ ∷ some _ ∷ some _ ∷ some _ ∷ some _ ∷ some _ ∷ some _ ∷ some _ ∷ some _ ∷ some _ ∷ some _ ∷ some _ ∷ some _ ∷ some _ ∷ some _ ∷ some _ ∷ some _ ∷ some _ ∷ [])
           r (tt, (ws .1 .0, (ws .1 .1 .0, (ws .1 .1 .1 .0, (tt, tt))))) ! is-r (tt, (len .1 .0, (len .1 .1 .0, (len .1 .1 .1 .0, (tt, tt)))))
-          (done-as h f e-f r (ws .1 .0) (ws .1 .1 .0) (ws .1 .1 .1 .0) (ws .1 .1 .1 .1 .0) e-r)))))
+          (done-as h d e-d r (ws .1 .0) (ws .1 .1 .0) (ws .1 .1 .1 .0) (ws .1 .1 .1 .1 .0) e-r)))))
           -- the book may not be used: nothing is touched
-          (λ h. within ! rest Q $ calls Unusable ! fm known-unusable ((m, is-m), tt) tt (reading ! 8 (1 ∷ []) (refl, tt)) (λ r _ e-r is-r _. gets ! 23 refl (typed stepped r is-r) $
+          (λ h. within ! rest Q $ calls Refused ! fm known-refused ((m, is-m), ((1, (refl, lit< tt)), tt)) tt (and-then ! (at ! 9 refl) (and-then ! (lit ! tt) (no-more !))) (λ r _ e-r is-r _. gets ! 23 refl (typed stepped r is-r) $
           sets ! 8 refl (of-opd ! (at ! 23 refl)) (typed stepped r is-r) $
           ends Step (κ, (κ′, (κ″, (κ‴, tt)))) (q, (q′, (q″, (q‴, tt)))) (m, (accounts, (levels, (ledger, (bytes, tt))))) (some _ ∷ some _ ∷ some _ ∷ some _ ∷ some _ ∷ some _ ∷ none ∷ some _ ∷ some _ ∷ some _ ∷ some _ ∷ some _ ∷ some _ ∷ some _ ∷ some _ ∷ [])
           r (tt, (now accounts, (now levels, (now ledger, (tt, tt))))) ! is-r (tt, (refl, (refl, (refl, (tt, tt))))) (refused h r e-r)))
@@ -161,6 +157,6 @@ step-spec 𝓤 H 𝓜 𝓖 𝓡 =
     entered 𝓤 H _ (tables 𝓤 H 𝓜 𝓡 code.env .C) (tables 𝓤 H 𝓜 𝓡 code.env .Λ) #ledger·steps·step code.function (code.unfolded 𝓤 H 𝓜 𝓡)
     (step-meets 𝓤 H (𝓖 .A) (givenOf 𝓤 H 𝓜 𝓖) (tables 𝓤 H 𝓜 𝓡 code.env .C) (tables 𝓤 H 𝓜 𝓡 code.env .Λ) (frames 𝓤 H 𝓜 𝓖 𝓡 code.env)
     (cited 𝓤 H _ 𝓜 𝓡 code.env #sound·check check-def.routine code.calls-sound·check (check-thm.met 𝓤 H 𝓜 𝓖 𝓡))
-    (cited 𝓤 H _ 𝓜 𝓡 code.env #ledger·asked·asked-by asked-by-def.routine code.calls-ledger·asked·asked-by (asked-by-thm.met 𝓤 H 𝓜 𝓖 𝓡))
-    (cited 𝓤 H _ 𝓜 𝓡 code.env #ledger·steps·step-on step-on-def.routine code.calls-ledger·steps·step-on (step-on-thm.met 𝓤 H 𝓜 𝓖 𝓡))
-    (cited 𝓤 H _ 𝓜 𝓡 code.env #ledger·after·unusable unusable-def.routine code.calls-ledger·after·unusable (unusable-thm.met 𝓤 H 𝓜 𝓖 𝓡)))
+    (cited 𝓤 H _ 𝓜 𝓡 code.env #record·decode decode-def.routine code.calls-record·decode (decode-thm.met 𝓤 H 𝓜 𝓖 𝓡))
+    (cited 𝓤 H _ 𝓜 𝓡 code.env #ledger·rooms·do-step do-step-def.routine code.calls-ledger·rooms·do-step (do-step-thm.met 𝓤 H 𝓜 𝓖 𝓡))
+    (cited 𝓤 H _ 𝓜 𝓡 code.env #ledger·stepped·refused refused-def.routine code.calls-ledger·stepped·refused (refused-thm.met 𝓤 H 𝓜 𝓖 𝓡)))

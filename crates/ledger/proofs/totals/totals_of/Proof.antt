@@ -3,7 +3,7 @@ use Prim.Native.Nat.{_+_}
 use native.Mathlib.Omega.{arith}
 use borrow.Author.Needs.{needs}
 use borrow.Author.Tests.{lt-ltb, le-ltb}
-use Rattle.ledger.specs.Judge.{totalsAt}
+use Rattle.ledger.specs.Judging.{totalsAt}
 use Rattle.ledger.proofs.totals.totals_of.Statement.{statement}
 use Rattle.ledger.proofs.totals.totals_of.Tie as tie
 

@@ -8,7 +8,7 @@ use Rattle.sound.proofs.limits.account_fits.Tie as tie
 returns : tie.Need-returns
 unfolding isNoAccount
 returns c =
-    let a = c .before .before .before .before .before .before .before .before .before .before .args .a in
+    let a = c .before .before .before .before .before .before .before .before .before .before .before .args .a in
     rw (
       c .both3 .ensures,
       c .before .both2 .ensures,
@@ -16,14 +16,14 @@ returns c =
       c .before .before .before .before .before .net-in .ensures,
       c .before .before .before .before .before .before .money-in .ensures,
       c .before .before .before .before .before .before .before .if1 .taken,
-      none-is (a .figure .0),
-      none-is (a .net .0),
+      none-is (a .margin .figure .0),
+      none-is (a .margin .net .0),
     )
 
 returns-2 : tie.Need-returns-2
 unfolding accountSound
 returns-2 c =
-    let a = c .before .before .before .before .before .before .before .before .before .before .args .a in
+    let a = c .before .before .before .before .before .before .before .before .before .before .before .args .a in
     rw (
       c .both6 .ensures,
       c .before .both5 .ensures,
@@ -31,8 +31,8 @@ returns-2 c =
       c .before .before .before .before .before .net-in2 .ensures,
       c .before .before .before .before .before .before .money-in2 .ensures,
       c .before .before .before .before .before .before .before .if1 .left,
-      within-is mostFigure (a .figure .0),
-      within-is mostNet (a .net .0),
+      within-is mostFigure (a .margin .figure .0),
+      within-is mostNet (a .margin .net .0),
     )
 
 pub account-fits-spec : {M : Type 1} → statement M
