@@ -109,7 +109,7 @@ def main():
         for a, b in sorted(table.items()):
             print(f"{a}\t{b}")
         return
-    camel = {a: b for a, b in table.items() if "-" not in a}
+    camel = {a: b for a, b in table.items() if re.search("[a-z][A-Z]|^[A-Z]+-[A-Z]+$", a)}
     spelled = lambda t: lambda m: t.get(m[0], m[0])
     for p in files(".antt", ".rt", ".edit", ".md"):
         old = text(p)
@@ -119,7 +119,8 @@ def main():
             new = re.sub(r"(?<![\w.])(?:(?:goal|tie|need|c)\.)?[A-Za-z][\w'-]*|[A-Za-z][\w'-]*", spelled(table), old)
             new = re.sub(r"(?<![\w.-])([a-z][\w-]*)-spec(?![\w-])", lambda m: m[1].replace("-", "_") + "_spec", new)
         elif p.endswith(".rt"):
-            new = re.sub(r"[A-Za-z]\w*'?", spelled(camel), old)
+            new = re.sub(r"[A-Z]+-[A-Z]+|[A-Za-z]\w*'?", spelled(camel), old)
+            new = re.sub(r"//[^\n]*|[A-Za-z]\w*(?:-\w+)+'?", spelled(table), new)
             new = re.sub(r"ghost use[^;]*;", lambda m: re.sub(r"[A-Za-z][\w'-]*", spelled(table), m[0]), new)
         elif p.endswith(".edit"):
             new = re.sub(r"[A-Za-z]\w*'?", spelled(camel), old)

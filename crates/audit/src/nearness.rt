@@ -12,7 +12,7 @@ use ledger::weight;
 
 // The accepted total, each distance, and all of them. All 0 where a total is above 20,000,000, as
 // that of no sound book is.
-#[derive(Drop)]
+#[derive(Clone, Copy)]
 pub struct Measured {
     pub accepted: u64,
     pub each: [u64; 256],

@@ -18,7 +18,7 @@ pub const GENERATOR_AMENDS: u8 = 13;
 pub const OPERATOR_AMENDS: u8 = 14;
 
 // The step that put a quantity: its place in the history, its kind and its minute. All 0 where none did.
-#[derive(Drop)]
+#[derive(Clone, Copy)]
 pub struct Put {
     pub place: u64,
     pub kind: u8,
@@ -26,7 +26,7 @@ pub struct Put {
 }
 
 // A book, and of each of its allocations the step that put its quantity.
-#[derive(Drop)]
+#[derive(Clone, Copy)]
 pub struct Followed {
     pub month: Month,
     pub accounts: [Account; 32],

@@ -1,12 +1,14 @@
 // The book of one Trading Month: its parts, and the fresh one. `specs/` is document 01 as
 // definitions, and `proofs/` has what holds of them.
+#![tactic(auto)]
+
 ghost use Rattle.std.specs.Prelude.{◌≡◌};
 ghost use Rattle.book.specs.Book.{fresh};
 
 use units::{Cents, Minutes, Net, Thousandths};
 
 // A window is open when opening <= t < closing.
-#[derive(Drop)]
+#[derive(Clone, Copy)]
 pub struct Window {
     pub opening: Minutes,
     pub closing: Minutes,
@@ -14,7 +16,7 @@ pub struct Window {
 
 // The month; days is 0 while none is open. The widest field comes first, so that a copy has no
 // gaps.
-#[derive(Drop)]
+#[derive(Clone, Copy)]
 pub struct Month {
     pub price: Cents,
     pub last: Minutes,
@@ -24,21 +26,21 @@ pub struct Month {
 }
 
 // The margin figure of a participant, and its net when the figure was stored.
-#[derive(Drop)]
+#[derive(Clone, Copy)]
 pub struct Margin {
     pub figure: Cents,
     pub net: Net,
 }
 
 // A participant's account; roles is 0 while it is not registered, 1 generator, 2 customer, 3 both.
-#[derive(Drop)]
+#[derive(Clone, Copy)]
 pub struct Account {
     pub roles: u8,
     pub requirement: Thousandths,
     pub margin: Margin,
 }
 
-#[derive(Drop)]
+#[derive(Clone, Copy)]
 pub enum Status {
     Empty,
     Submitted,
@@ -49,7 +51,7 @@ pub enum Status {
 }
 
 // One record of the ledger.
-#[derive(Drop)]
+#[derive(Clone, Copy)]
 pub struct Allocation {
     pub generator: u8,
     pub customer: u8,
@@ -59,7 +61,7 @@ pub struct Allocation {
 
 // The answer to a record: the reason, or 0 where it is done, and the number given, 0 but for a done
 // SUBMIT.
-#[derive(Drop)]
+#[derive(Clone, Copy)]
 pub struct Answer {
     pub reason: u8,
     pub number: u16,

@@ -1,6 +1,8 @@
 // The core for programs in C, which `rionvakhe.h` declares. A call lends a book as numbers, with a
 // record, a history or a room for figures, and gets the answer; nothing is kept between calls. No
 // function here has a `requires`: whatever the lengths and contents, they are answered.
+#![tactic(auto)]
+
 ghost use Rattle.boundary.specs.Lent.{Freshens, Steps, Runs, Settles};
 
 use crate::calls::run;

@@ -1,4 +1,6 @@
 // Credits: sums over the days of a month in the table of levels, which is lent and may be any.
+#![tactic(auto)]
+
 ghost use Rattle.std.specs.Prelude.{◌≡◌, ◌&&◌, ◌+◌, ◌*◌, ◌/◌, ◌≤◌, ◌<◌, eqb, leb, ltb, length};
 ghost use Rattle.book.specs.Book.{participants, most_days, level_places};
 ghost use Rattle.credits.specs.Credits.{over_run, tradeable_at, dsm_at};

@@ -1,5 +1,8 @@
 // Cases E, F and G of document 01, run: what each is cut from, what it is cut to, and the new quantities.
-use libc::STDOUT_FILENO;
+#![tactic(auto)]
+
+// Standard output, as the system numbers it.
+const STDOUT_FILENO: i32 = 1;
 
 // The numbers of a list, each after a space.
 fn show(numbers: &[u64]) {

@@ -1,17 +1,24 @@
 // How near each operator's cut lies to the published formula: reads a history of step records on
 // standard input, in chunks of whole records, and prints for each done OPERATOR AMENDS what every
 // allocation had, its exact share, what it has, and the distances, as `audit::misses` finds them.
+#![tactic(auto)]
+
 ghost use Rattle.std.specs.Prelude.{◌≤◌, ◌<◌};
 
 use audit::Measured;
 use book::{Account, Allocation, Month};
-use libc::{STDIN_FILENO, STDOUT_FILENO};
 use record::{Decoded, Step};
 use units::Minutes;
 
+// Standard input, as the system numbers it.
+const STDIN_FILENO: i32 = 0;
+
+// Standard output, as the system numbers it.
+const STDOUT_FILENO: i32 = 1;
+
 // The book so far, the place of the last record done, whether there was a cut, and whether the last
 // line could be written.
-#[derive(Drop)]
+#[derive(Clone, Copy)]
 struct Desk {
     month: Month,
     accounts: [Account; 32],
@@ -82,7 +89,7 @@ fn narrow(credits: u64) -> u32 {
 }
 
 // What a record was as a cut: whether it was a done OPERATOR AMENDS, whose, and when.
-#[derive(Drop)]
+#[derive(Clone, Copy)]
 struct Cut {
     done: bool,
     generator: u8,

@@ -1,8 +1,15 @@
 // A month on standard input, of at most nine records, printed as it is; then with each of its bytes
 // changed in turn, a line of answers and numbers each; then cut at each length, a line each of how
 // many records stand there, the answer to the last, and the first line of the settlement.
+#![tactic(auto)]
+
 use ledger::{Whole, answer_in};
-use libc::STDOUT_FILENO;
+
+// Standard input, as the system numbers it.
+const STDIN_FILENO: i32 = 0;
+
+// Standard output, as the system numbers it.
+const STDOUT_FILENO: i32 = 1;
 
 // Nine records.
 const BYTES: usize = 216;
@@ -137,6 +144,6 @@ fn print_all(month: &mut [u8]) {
 
 fn main() {
     let mut month = [0u8; BYTES];
-    let got = io::read_full(libc::STDIN_FILENO, &mut month);
+    let got = io::read_full(STDIN_FILENO, &mut month);
     print_all(&mut month[..got]);
 }

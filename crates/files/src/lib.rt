@@ -3,6 +3,8 @@
 // Each function hands back a part of the file that it is named after, as it stands in that buffer:
 // nothing is copied. The part's lifetime is that file's, so a caller that takes it for the other
 // file's does not compile. A place that has no whole record gives an empty part.
+#![tactic(auto)]
+
 ghost use Rattle.std.specs.Prelude.{◌≡◌};
 ghost use Rattle.files.specs.Showing.{record_at, stands_at};
 

@@ -7,7 +7,7 @@ ghost use Rattle.book.specs.Book.{most_level};
 ghost use Rattle.book.specs.Reasons.{from_to};
 ghost use Rattle.reasons.specs.Chain.{when, first};
 ghost use Rattle.reasons.specs.Parts.{generates};
-ghost use Rattle.gate.specs.Rooms.{month_step, account_step, level_step, cut_step_lem, credits};
+ghost use Rattle.gate.specs.Rooms.{month_step, account_step, level_step, cut_step, credits};
 ghost use Rattle.gate.specs.Doors.{ByMonth, ByParty};
 
 use crate::tests::{end_fits, figure_fits, is_late, lies_in, price_fits};
@@ -120,14 +120,14 @@ pub fn account_reason(m: Month, roles: u8, x: AccountStep) -> u8
 
 // Whether a participant may not hold credits of a kind: kinds 1 to 3 are a generator's.
 fn wrong_holder(kind: u8, roles: u8) -> bool
-    ensures { result ≡ (from-to 1 3 kind && not (generates roles)) }
+    ensures { result ≡ (from_to 1 3 kind && not (generates roles)) }
 {
     both(lies_in(1, 3, kind as u32), negated(is_generator(roles)))
 }
 
 // The kind, the first day and the quantity of a credit.
 fn credit_fits(days: u8, kind: u8, day: u8, quantity: Thousandths) -> bool
-    ensures { result ≡ (from-to 1 4 kind && (from-to 1 days day && from-to 1 most_level quantity.0)) }
+    ensures { result ≡ (from_to 1 4 kind && (from_to 1 days day && from_to 1 most_level quantity.0)) }
 {
     let day_fits = lies_in(1, days as u32, day as u32);
     let quantity_fits = lies_in(1, MOST_LEVEL, quantity.0);

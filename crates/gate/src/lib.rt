@@ -1,6 +1,8 @@
 // The gate: by which room a step goes in, and what it is refused for at the door, before any total
 // is worked out: reasons 2 to 11. A room is the part of the book that a step alters, as document
 // 01's table of kinds has it, and a room's own step has what its kinds use and nothing else.
+#![tactic(auto)]
+
 ghost use Rattle.std.specs.Prelude.{◌≡◌};
 ghost use Rattle.gate.specs.Rooms.{said_by};
 
@@ -14,21 +16,21 @@ pub use trades::allocation_reason;
 use units::{Cents, LongMinutes, Minutes, Thousandths};
 
 // What OPEN and WINDOW set.
-#[derive(Drop)]
+#[derive(Clone, Copy)]
 pub enum MonthChange {
     Open { days: u8, price: Cents },
     Window { selector: u8, end: LongMinutes },
 }
 
 // A step that alters the month.
-#[derive(Drop)]
+#[derive(Clone, Copy)]
 pub struct MonthStep {
     pub change: MonthChange,
     pub at: Minutes,
 }
 
 // What REGISTER, REQUIREMENT and MARGIN store.
-#[derive(Drop)]
+#[derive(Clone, Copy)]
 pub enum AccountChange {
     Roles(u8),
     Requirement(Thousandths),
@@ -36,7 +38,7 @@ pub enum AccountChange {
 }
 
 // A step that alters an account.
-#[derive(Drop)]
+#[derive(Clone, Copy)]
 pub struct AccountStep {
     pub participant: u8,
     pub change: AccountChange,
@@ -44,7 +46,7 @@ pub struct AccountStep {
 }
 
 // A step that alters levels: CREATE, else TERMINATE.
-#[derive(Drop)]
+#[derive(Clone, Copy)]
 pub struct LevelStep {
     pub creates: bool,
     pub participant: u8,
@@ -55,7 +57,7 @@ pub struct LevelStep {
 }
 
 // What is done to one allocation.
-#[derive(Drop)]
+#[derive(Clone, Copy)]
 pub enum Trade {
     Submit { customer: u8, quantity: Thousandths },
     Withdraw(u16),
@@ -66,7 +68,7 @@ pub enum Trade {
 }
 
 // A step that alters one allocation. All but SUBMIT name it by its number.
-#[derive(Drop)]
+#[derive(Clone, Copy)]
 pub struct AllocationStep {
     pub party: u8,
     pub trade: Trade,
@@ -74,14 +76,14 @@ pub struct AllocationStep {
 }
 
 // A step that alters all that a generator has accepted: OPERATOR AMENDS.
-#[derive(Drop)]
+#[derive(Clone, Copy)]
 pub struct CutStep {
     pub generator: u8,
     pub at: Minutes,
 }
 
 // What a record asks, by the part of the book that it alters.
-#[derive(Drop)]
+#[derive(Clone, Copy)]
 pub enum Room {
     Month(MonthStep),
     Account(AccountStep),

@@ -14,7 +14,7 @@ const MOST_END: i64 = 1_000_000;
 
 // A number from one bound to another.
 pub fn lies_in(low: u32, high: u32, n: u32) -> bool
-    ensures { result ≡ from-to low high n }
+    ensures { result ≡ from_to low high n }
 {
     both(low <= n, n <= high)
 }

@@ -3,7 +3,7 @@
 ghost use Rattle.std.specs.Prelude.{◌≡◌, length};
 ghost use Rattle.record.specs.declared.Decoded.TheVariants as D;
 ghost use Rattle.sound.specs.Check.{book_from};
-ghost use Rattle.gate.specs.Rooms.{cut_step_lem};
+ghost use Rattle.gate.specs.Rooms.{cut_step};
 ghost use Rattle.ledger.specs.Ready.{TotalsFit, Ready};
 ghost use Rattle.ledger.specs.Judging.{JudgedCut};
 ghost use Rattle.ledger.specs.Rooms.{DoesStep};

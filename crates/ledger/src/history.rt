@@ -9,14 +9,14 @@ use book::{Account, Allocation, Answer, Month};
 use record::decode_at;
 
 // What a run leaves beside the lent tables: the month, and how many records it has answered.
-#[derive(Drop)]
+#[derive(Clone, Copy)]
 pub struct Ran {
     pub month: Month,
     pub records: usize,
 }
 
 // The same of a run whose accounts and ledger were handed over whole.
-#[derive(Drop)]
+#[derive(Clone, Copy)]
 pub struct Whole {
     pub month: Month,
     pub accounts: [Account; 32],

@@ -6,7 +6,7 @@ ghost use Rattle.ledger.specs.Writing.{refused_by, done_at, submitted_at};
 use book::{Answer, Month};
 use units::Minutes;
 
-#[derive(Drop)]
+#[derive(Clone, Copy)]
 pub struct Stepped {
     pub month: Month,
     pub answer: Answer,

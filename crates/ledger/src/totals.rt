@@ -8,7 +8,7 @@ use reasons::PARTICIPANTS;
 use units::Thousandths;
 
 // The totals of one participant.
-#[derive(Drop)]
+#[derive(Clone, Copy)]
 pub struct Totals {
     pub pending: Thousandths,
     pub made: Thousandths,

@@ -25,7 +25,7 @@ use units::{Minutes, Thousandths};
 
 // The accounts at the places of A, of B and of the participant that the step is judged by, and the
 // record at the step's place in the ledger.
-#[derive(Drop)]
+#[derive(Clone, Copy)]
 pub struct Seen {
     pub party: Account,
     pub customer: Account,
@@ -47,7 +47,7 @@ fn next_place(m: Month) -> usize
 
 // The place of a number.
 fn place_of(number: u16) -> usize
-    ensures { (result ≡ cond (from-to 1 most_given number) (number - 1) 0) × (result < most_given) }
+    ensures { (result ≡ cond (from_to 1 most_given number) (number - 1) 0) × (result < most_given) }
 {
     if number == 0 {
         return 0;

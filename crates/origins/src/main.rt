@@ -1,9 +1,16 @@
 // Which step put each quantity of the ledger: reads a history of step records on standard input, in
 // chunks of whole records, and prints a line for each allocation number given. `audit::follow` finds
 // them, and `answered` of its proofs says that nothing else could have put them.
+#![tactic(auto)]
+
 use audit::{Followed, Put};
-use libc::{STDIN_FILENO, STDOUT_FILENO};
 use units::Minutes;
+
+// Standard input, as the system numbers it.
+const STDIN_FILENO: i32 = 0;
+
+// Standard output, as the system numbers it.
+const STDOUT_FILENO: i32 = 1;
 
 // A minute with its sign.
 fn show_minute(m: Minutes) {

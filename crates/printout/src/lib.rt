@@ -2,6 +2,8 @@
 //
 // No contract can say what is read or written. What the lines are is stated where they are made, in
 // `text`; what the answers and the figures are, in `ledger` and `settlement`.
+#![tactic(auto)]
+
 mod kept; // kept.rt: the book that one piece of a month leaves for the next
 mod page; // page.rt: lines on their way to standard output
 mod settled; // settled.rt: the lines of settlement

@@ -7,10 +7,12 @@ ghost use Rattle.text.specs.Lines.{answer_line};
 ghost use Rattle.printout.specs.Page.{start_of, with_line, with_answers, Holds};
 
 use ledger::answer_in;
-use libc::STDOUT_FILENO;
+
+// Standard output, as the system numbers it.
+const STDOUT_FILENO: i32 = 1;
 
 // How much of the buffer is filled, and whether every write so far was taken whole.
-#[derive(Drop)]
+#[derive(Clone, Copy)]
 pub struct Page {
     pub used: usize,
     pub going: bool,
@@ -51,7 +53,7 @@ pub fn flush(out: &[u8], page: Page) -> Page
 pub fn with_room(out: &[u8], page: Page, room: usize) -> Page
     ensures { result.used ≡ start_of room (record { bytes = out.now; used = page.used }) }
 {
-    if text::has_room_lem(out.len(), page.used, room) {
+    if text::has_room(out.len(), page.used, room) {
         page
     } else {
         flush(out, page)

@@ -1,4 +1,6 @@
 // Small tests on the parts of a book, and how they make a reason: the lowest number that applies, or 0.
+#![tactic(auto)]
+
 ghost use Rattle.std.specs.Prelude.{◌≡◌, not, ◌&&◌, ◌||◌, ◌<◌};
 ghost use Rattle.book.specs.Book.{status_number, participants};
 ghost use Rattle.reasons.specs.Chain.{when, first};

@@ -7,7 +7,7 @@ use crate::numbers;
 use units::{Cents, LongMinutes, Minutes, Thousandths};
 
 // The eight bytes of an amount, before the step's kind says whether they are money or a time.
-#[derive(Drop)]
+#[derive(Clone, Copy)]
 pub struct Amount(pub i64);
 
 impl Amount {
@@ -41,7 +41,7 @@ impl Amount {
 }
 
 // The fields of a record, in the order of its bytes.
-#[derive(Drop)]
+#[derive(Clone, Copy)]
 pub struct Fields {
     pub kind: u8,
     pub a: u8,

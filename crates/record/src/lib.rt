@@ -1,4 +1,6 @@
 // The step record: what 24 bytes say, and the 24 bytes of a step. No function here has a `requires`: whatever the bytes, they are answered.
+#![tactic(auto)]
+
 ghost use Rattle.std.specs.Prelude.{◌≡◌, ◌*◌, take, drop};
 ghost use Rattle.record.specs.Record.{decode_of, bytes_of};
 ghost use Rattle.record.specs.Ranged.{Ranged};
@@ -11,7 +13,7 @@ mod reading; // reading.rt: the step that fields say
 mod writing; // writing.rt: the fields of a step
 
 // A step of the market's history: one of fourteen kinds, each with its own data.
-#[derive(Drop)]
+#[derive(Clone, Copy)]
 pub enum Step {
     Open {
         days: u8,
@@ -91,7 +93,7 @@ pub enum Step {
 }
 
 // What a record says: a step, or nothing that counts as one (document 01's reason 1).
-#[derive(Drop)]
+#[derive(Clone, Copy)]
 pub enum Decoded {
     Step(Step),
     Refused,

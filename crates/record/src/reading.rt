@@ -142,7 +142,7 @@ fn accept(f: Fields) -> Decoded
 
 // 11 ASK REVERSAL: a generator and its allocation.
 fn ask_reversal(f: Fields) -> Decoded
-    ensures { result ≡ Decoded.Step (made ASK-REVERSAL f) }
+    ensures { result ≡ Decoded.Step (made ASK_REVERSAL f) }
 {
     let at = f.minute;
     Decoded::Step(Step::AskReversal {
@@ -154,7 +154,7 @@ fn ask_reversal(f: Fields) -> Decoded
 
 // 12 AGREE REVERSAL: a customer and its allocation.
 fn agree_reversal(f: Fields) -> Decoded
-    ensures { result ≡ Decoded.Step (made AGREE-REVERSAL f) }
+    ensures { result ≡ Decoded.Step (made AGREE_REVERSAL f) }
 {
     let at = f.minute;
     Decoded::Step(Step::AgreeReversal {
@@ -166,7 +166,7 @@ fn agree_reversal(f: Fields) -> Decoded
 
 // 13 GENERATOR AMENDS: a generator, its allocation and the new quantity.
 fn generator_amends(f: Fields) -> Decoded
-    ensures { result ≡ Decoded.Step (made GENERATOR-AMENDS f) }
+    ensures { result ≡ Decoded.Step (made GENERATOR_AMENDS f) }
 {
     let quantity = f.quantity;
     let at = f.minute;
@@ -180,7 +180,7 @@ fn generator_amends(f: Fields) -> Decoded
 
 // 14 OPERATOR AMENDS: a generator.
 fn operator_amends(f: Fields) -> Decoded
-    ensures { result ≡ Decoded.Step (made OPERATOR-AMENDS f) }
+    ensures { result ≡ Decoded.Step (made OPERATOR_AMENDS f) }
 {
     let at = f.minute;
     Decoded::Step(Step::OperatorAmends { generator: f.a, at })

@@ -12,11 +12,11 @@ use reasons::{both, is_generator};
 use units::{Cents, Thousandths};
 
 // Thousandths of a cent.
-#[derive(Drop)]
+#[derive(Clone, Copy)]
 pub struct Pay(pub u64);
 
 // What settlement says of a participant.
-#[derive(Drop)]
+#[derive(Clone, Copy)]
 pub struct Figures {
     pub participant: u8,
     pub tradeable: Thousandths,

@@ -1,5 +1,7 @@
 // Settlement: the eight figures of each registered participant, from a book that is lent or handed
 // over. Everything under `settle` and `settle_whole` is private.
+#![tactic(auto)]
+
 mod figures; // figures.rt: one participant's figures
 mod listing; // listing.rt: the figures of all, and why they are refused
 mod settling; // settling.rt: settlement of a lent book, or of a whole one

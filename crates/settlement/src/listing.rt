@@ -12,7 +12,7 @@ use units::Thousandths;
 
 // The reason, or 0 and the figures of each registered participant, so many of them; the later places
 // are not used.
-#[derive(Drop)]
+#[derive(Clone, Copy)]
 pub struct Settlement {
     pub reason: u8,
     pub count: u8,

@@ -10,7 +10,7 @@ use book::{Account, Allocation, Month};
 use sound::{check, check_whole};
 
 // The reason, or 0 and how many figures there are.
-#[derive(Drop)]
+#[derive(Clone, Copy)]
 pub struct Settled {
     pub reason: u8,
     pub count: u8,
@@ -34,7 +34,7 @@ pub fn settle_whole(
 }
 
 // Whether a room for figures has a place for each participant.
-fn has_room_lem(places: usize) -> bool
+fn has_room(places: usize) -> bool
     ensures { result ≡ eqb places participants }
 {
     places == 32
@@ -88,7 +88,7 @@ pub fn settle(
     ensures { Settles (book_from month accounts.now levels.now ledger.now) figures.old result figures.new }
 {
     let found = check(month, accounts, levels, ledger);
-    let s = settled_on(has_room_lem(figures.len()), found, month, levels);
+    let s = settled_on(has_room(figures.len()), found, month, levels);
     write(&mut *figures, s, count_of(s));
     in_short(s)
 }

@@ -3,6 +3,8 @@
 // Shares are rounded down, and the spare units go one each to the largest remainders, of equal
 // remainders to the lower index first. `specs/Shares.antt` has that list as a definition, and
 // `specs/Nearness.antt` what is promised of it.
+#![tactic(auto)]
+
 ghost use Rattle.std.specs.Prelude.{◌≡◌, ◌+◌, ◌*◌, min, leb, length, replicate};
 ghost use Rattle.share.specs.Totals.{at, total, largest};
 ghost use Rattle.share.specs.Shares.{floors, spare, share_of};
@@ -10,7 +12,7 @@ ghost use Rattle.share.specs.Answers.{limit, answer_of, shares_after};
 ghost use Rattle.share.specs.Parts.{Ready};
 
 // How a request to share ended.
-#[derive(Drop)]
+#[derive(Clone, Copy)]
 pub enum Sharing {
     Shared,
     LengthsDiffer,

@@ -15,7 +15,7 @@ use reasons::both;
 
 // Whether a book may be used; its accounts and the totals of its ledger, or those of the fresh book
 // where a table has a wrong length.
-#[derive(Drop)]
+#[derive(Clone, Copy)]
 pub struct Checked {
     pub usable: bool,
     pub accounts: [Account; 32],

@@ -1,5 +1,7 @@
 // The lines that the ledger program prints, put into a buffer of the caller's. Where the buffer has
 // too little room from the place given, nothing is written and the place is answered as it was.
+#![tactic(auto)]
+
 mod row; // row.rt: numbers as a line
 
 ghost use Rattle.std.specs.Prelude.{◌≡◌, leb, ◌+◌};
@@ -17,7 +19,7 @@ pub const FIGURES_ROOM: usize = 256;
 pub const REFUSAL_ROOM: usize = 32;
 
 // Whether so many bytes stand from a place on, in a buffer of that length.
-pub fn has_room_lem(length: usize, at: usize, most: usize) -> bool
+pub fn has_room(length: usize, at: usize, most: usize) -> bool
     ensures { result ≡ leb (at + most) length }
 {
     if length < at {
@@ -30,7 +32,7 @@ pub fn has_room_lem(length: usize, at: usize, most: usize) -> bool
 pub fn answer_line(out: &mut [u8], at: usize, place: u64, reason: u8, number: u16) -> usize
     ensures { Laid 64 out.old at (answer_line place reason number) out.new result }
 {
-    if !has_room_lem(out.len(), at, ANSWER_ROOM) {
+    if !has_room(out.len(), at, ANSWER_ROOM) {
         return at;
     }
     let numbers = [place, reason as u64, number as u64];
@@ -41,7 +43,7 @@ pub fn answer_line(out: &mut [u8], at: usize, place: u64, reason: u8, number: u1
 pub fn figures_line(out: &mut [u8], at: usize, participant: u8, figures: [u64; 8]) -> usize
     ensures { Laid 256 out.old at (figures_line participant figures) out.new result }
 {
-    if !has_room_lem(out.len(), at, FIGURES_ROOM) {
+    if !has_room(out.len(), at, FIGURES_ROOM) {
         return at;
     }
     let numbers = [
@@ -62,7 +64,7 @@ pub fn figures_line(out: &mut [u8], at: usize, participant: u8, figures: [u64; 8
 pub fn refusal_line(out: &mut [u8], at: usize, reason: u8) -> usize
     ensures { Laid 32 out.old at (refusal_line reason) out.new result }
 {
-    if !has_room_lem(out.len(), at, REFUSAL_ROOM) {
+    if !has_room(out.len(), at, REFUSAL_ROOM) {
         return at;
     }
     let numbers = [reason as u64];

@@ -1,8 +1,0 @@
--- `refused_unless` meets its contract: the definition goes by the same test. Assumes nothing.
-use Rattle.reasons.specs.Chain.{when}
-use Rattle.reasons.proofs.refused_unless.Statement.{statement}
-use Rattle.reasons.proofs.refused_unless.Tie as tie
-
-pub refused_unless_spec : {M : Type 1} → statement M
-unfolding when
-refused_unless_spec = tie.close (tie.spec (λ c. rw c.if1.true) (λ c. rw c.if1.false))
