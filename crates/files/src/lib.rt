@@ -25,6 +25,7 @@ pub fn history_at<'d, 'h>(drafts: &'d [u8], history: &'h [u8], place: usize) -> 
 }
 
 // The record at a place of one file.
+#[tactic(auto, unfolding(crate::specs::Showing::record_at, crate::specs::Showing::stands_at))]
 fn shown(file: &[u8], place: usize) -> &[u8]
     ensures bytes { result.now ≡ record_at file.now place }
     ensures uncopied { result.ref_ptr ≡ stands_at file.entry place }
