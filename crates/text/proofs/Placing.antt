@@ -77,5 +77,5 @@ laid {most} {out} {line} {out'} {at} {r} {roomy?} e h p =
     record { ends = rw some p.ends; bytes = rw some p.bytes }
 
 -- the room that was tested for
-pub has_room_lem : (at most length : ℕ) {roomy? : Bool} → roomy? ≡ leb (at + most) length → not roomy? ≡ false → at + most ≤ length
-has_room_lem at most length {roomy?} e h = leb-true (at + most) length (sym e ∙ not-false roomy? h)
+pub has_room : (at most length : ℕ) {roomy? : Bool} → roomy? ≡ leb (at + most) length → not roomy? ≡ false → at + most ≤ length
+has_room at most length {roomy?} e h = leb-true (at + most) length (sym e ∙ not-false roomy? h)
