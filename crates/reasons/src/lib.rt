@@ -78,6 +78,7 @@ pub const LEAST_FIGURE: i64 = -100_000_000_000;
 pub const MOST_FIGURE: i64 = 100_000_000_000;
 
 // The reason, if the test holds.
+#[tactic(auto, unfolding(crate::specs::Chain::when))]
 pub fn refused_if(test: bool, reason: u8) -> u8
     ensures { result ≡ when test reason }
 {
@@ -85,6 +86,7 @@ pub fn refused_if(test: bool, reason: u8) -> u8
 }
 
 // The reason, unless the test holds.
+#[tactic(auto, unfolding(crate::specs::Chain::when))]
 pub fn refused_unless(test: bool, reason: u8) -> u8
     ensures { result ≡ when (not test) reason }
 {
@@ -92,6 +94,7 @@ pub fn refused_unless(test: bool, reason: u8) -> u8
 }
 
 // The first reason, unless it is none.
+#[tactic(auto, unfolding(crate::specs::Chain::first))]
 pub fn first_of(x: u8, y: u8) -> u8
     ensures { result ≡ first x y }
 {
