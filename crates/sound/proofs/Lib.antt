@@ -3,5 +3,3 @@ pub mod Tally
 pub mod Fits
 pub mod Loaded
 pub mod Usable
-pub mod Structs
-pub mod Contracts

@@ -9,6 +9,7 @@ use units::Thousandths;
 
 // A quantity added to a participant's total, in the part of the table that begins at `from`; nobody
 // past the last participant has one.
+#[tactic(auto, unfolding(crate::specs::Check::added_to))]
 fn add_to(totals: &mut [u32; 96], from: usize, participant: u8, quantity: u32)
     requires { from ≤ 64 }
     ensures { totals.new ≡ added_to from participant quantity totals.old }
@@ -21,6 +22,7 @@ fn add_to(totals: &mut [u32; 96], from: usize, participant: u8, quantity: u32)
 }
 
 // What a record adds to the totals of its parties.
+#[tactic(auto, unfolding(crate::specs::Check::added_in))]
 fn add_in(totals: &mut [u32; 96], l: Allocation)
     ensures { totals.new ≡ added_in l totals.old }
 {

@@ -118,6 +118,7 @@ pub fn account_fits(fresh: bool, a: Account) -> bool
 }
 
 // A record up to the number given, from the roles of its generator and its customer.
+#[tactic(auto, unfolding(crate::specs::Check::given_fits))]
 fn is_given(l: Allocation, makes: u8, takes: u8) -> bool
     ensures { result ≡ given_fits l makes takes }
 {
@@ -129,6 +130,7 @@ fn is_given(l: Allocation, makes: u8, takes: u8) -> bool
     both(negated(number_of(s) == 0), parties)
 }
 
+#[tactic(auto, unfolding(book::specs::Sound::is_no_allocation))]
 fn is_no_allocation(l: Allocation) -> bool
     ensures { result ≡ is_no_allocation l }
 {
