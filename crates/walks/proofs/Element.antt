@@ -14,7 +14,7 @@ use mathlib.Core.List.{List, [], ◌∷◌}
 use lib.Dec.{T as Holds, ltb}
 use lib.ListN.{length, get_or, set, length-set}
 use seplogic.Ra.Ura.{Ura}
-use seplogic.Ra.TreeShare.{full_share}
+use base.Fraction.{full_share}
 use mir.Syntax.{Ty, Fn, Body, local, value_local, named, imm, mut, unsigned, w64, ty_int, ty_ptr, ty_unit, ty_ref, place, field, deref, copy, int, opd_unit, rv_opd, op2, mul, offset, assign, seq, return}
 use mir.Val.{vptr, has_ty, WT}
 use base.Fml.{Lft, Share, fat, froom, flft}

@@ -20,7 +20,7 @@ use lib.Seq.{take-suc, length-take-le, set_at, append_snoc}
 use lib.WfN.{lt-wf_rel}
 use borrow.Author.Tests.{ltb-true, ltb-false}
 use seplogic.Ra.Ura.{Ura}
-use seplogic.Ra.TreeShare.{full_share}
+use base.Fraction.{full_share}
 use mir.Syntax.{Name, Ty, Body, Fn, local, value_local, memory_slot, named, imm, unsigned, w64, ty_int, ty_bool, ty_ptr, ty_ref, ty_array, place, field, deref, copy, int, rv_opd, op2, addr_of, add, mul, lt, offset, assign, call, seq, cond, block, loop, skip, exit, return}
 use mir.Val.{Val, vint, vbool, vptr}
 use base.Fml.{Lft, Share, flft}

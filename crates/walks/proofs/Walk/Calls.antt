@@ -10,7 +10,7 @@ use Prim.Native.Nat.{ℕ, zero, suc}
 use mathlib.Core.List.{List, [], ◌∷◌, ◌++◌}
 use lib.ListN.{length}
 use seplogic.Ra.Ura.{Ura}
-use seplogic.Ra.TreeShare.{full_share}
+use base.Fraction.{full_share}
 use mir.Syntax.{Opd as Operand, Name, Place, Body, named, seq, call}
 use mir.Val.{Val, vptr}
 use base.Logic.{SProp, ent, sep, wand, ex, guard, emp, id⊢, via, comm∗, mono_l, wand_i, apply∗}

@@ -12,7 +12,7 @@ use Prim.Native.Nat.{ℕ, zero, ◌+◌}
 use mathlib.Core.Logic.{Lift}
 use mathlib.Core.List.{List, [], ◌∷◌, map}
 use seplogic.Ra.Ura.{Ura}
-use seplogic.Ra.TreeShare.{full_share}
+use base.Fraction.{full_share}
 use lib.Dec.{T as Holds}
 use mir.Syntax.{Ty, Tys, Sym, w64, ty_struct, Rv as RValue, Body, place, field, deref, copy, addr_of, assign, seq}
 use mir.Val.{Val, Vals, vint, vptr, vstruct, WT, has_ty}

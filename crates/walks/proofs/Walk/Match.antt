@@ -11,7 +11,7 @@ use mathlib.Core.Option.{some}
 use Prim.Native.Nat.{ℕ}
 use mathlib.Core.List.{List, [], ◌∷◌}
 use seplogic.Ra.Ura.{Ura}
-use mir.Syntax.{Ty, Tys, tcons, tnil, w8, Body, Arms, arm, default, no_default, skip, seq, assign, block, loop, cond, switch, exit, return, call, place, variant, field, copy}
+use mir.Syntax.{Ty, Tys, tcons, tnil, w8, Body, Arms, arm, default, no_default, skip, seq, assign, block, loop, cond, switch, exit, return, call, unreachable, call_v, lend_static, place, variant, field, copy}
 use mir.Val.{Val, Vals, vint, has_key}
 use mir.Fields.{get_v}
 use base.Fml.{Share, fat}
@@ -37,6 +37,9 @@ arms_in (switch o arms) = arms
 arms_in (exit k) = no_default
 arms_in return = no_default
 arms_in (call f xs p) = no_default
+arms_in unreachable = no_default
+arms_in (call_v c ς xs p) = no_default
+arms_in (lend_static p τ c) = no_default
 
 abbrev pub arms_of : Body → Arms
 arms_of skip = no_default
@@ -49,6 +52,9 @@ arms_of (switch o arms) = no_default
 arms_of (exit k) = no_default
 arms_of return = no_default
 arms_of (call f xs p) = no_default
+arms_of unreachable = no_default
+arms_of (call_v c ς xs p) = no_default
+arms_of (lend_static p τ c) = no_default
 
 abbrev pub arm_at : ℕ → Arms → Body
 arm_at k (arm ks b arms) = if-so (has_key ks k) b (arm_at k arms)

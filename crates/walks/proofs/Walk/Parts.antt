@@ -6,7 +6,7 @@ use mathlib.Core.Option.{Option, none, some}
 use Prim.Native.Nat.{ℕ, zero, suc}
 use mathlib.Core.List.{List, [], ◌∷◌, ◌++◌, map}
 use seplogic.Ra.Ura.{Ura}
-use mir.Syntax.{Fn, Body, skip, seq, assign, block, loop, cond, switch, exit, return, call}
+use mir.Syntax.{Fn, Body, skip, seq, assign, block, loop, cond, switch, exit, return, call, unreachable, call_v, lend_static}
 use mir.Val.{Val}
 use prog.Wp.{Calls, Loops}
 use types.Logic.{Logic}
@@ -28,6 +28,9 @@ past (suc n) (switch o a) = skip
 past (suc n) (exit k) = skip
 past (suc n) return = skip
 past (suc n) (call f xs p) = skip
+past (suc n) unreachable = skip
+past (suc n) (call_v c ς xs p) = skip
+past (suc n) (lend_static p τ c) = skip
 
 module _ {M : Type 1} {𝓤 : Ura M} (𝓛 : Logic 𝓤) (c : Terms) (f : Fn) (C : Calls 𝓤 𝓛.H) (Λ : Loops 𝓤 𝓛.H) where
   open 𝓛 use {H}

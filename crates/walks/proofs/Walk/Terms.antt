@@ -14,14 +14,17 @@ use seplogic.Ra.Ura.{Ura}
 use mir.Syntax.{named}
 use mir.Val.{Val}
 use base.Logic.{SProp, sep, ex, emp}
-use base.Fml.{Fml, ftrue, fsep, fres, feq}
+use base.Fml.{Lft, Fml, ftrue, fsep, fres, feq, fbor}
 use types.Logic.{Logic, sem}
+use types.SemTy.{Body as Borrowed}
 use contract.Monad.{fact}
 use contract.Lifetimes.{Lfts, Shares, toks}
 use denote.RattleType.{RattleType, Denots, Valss, flat, owns}
 use denote.Laws.{Spells, valss}
-use denote.Ref.{MutRef, shr_vals}
-use denote.Slice.{ShrSlice, MutSlice, shr_slice_vals, finally}
+use denote.Lend.{Held}
+use denote.Memory.{mem}
+use denote.Ref.{MutBor, MutRef, mut_vals}
+use denote.Slice.{ShrSlice, MutSlice, shr_slice_vals, mut_slice_vals, finally}
 use denote.Triple.Statement.{Contract}
 use Rattle.walks.proofs.Walk.Values.{Value, Of}
 
@@ -85,8 +88,8 @@ abbrev pub spells : (j : ℕ) (ps : List Param) (κs : Lfts (refs ps)) → Spell
 spells j [] κs = tt
 spells j (plain X ∷ ps) κs = ((λ x. X.val x ∷ []), spells j ps κs)
 spells j (shared X ∷ ps) κs = (shr_slice_vals, spells (suc j) ps κs.1)
-spells j (mutable X ∷ ps) κs = (shr_slice_vals, spells (suc j) ps κs.1)
-spells j (single X ∷ ps) κs = (shr_vals, spells (suc j) ps κs.1)
+spells j (mutable X ∷ ps) κs = (mut_slice_vals, spells (suc j) ps κs.1)
+spells j (single X ∷ ps) κs = (mut_vals, spells (suc j) ps κs.1)
 
 module _ (j : ℕ) (ps : List Param) (κs : Lfts (refs ps)) (a : Denots (rows j ps κs)) where
   abbrev pub machine_values : Valss (rows j ps κs)
@@ -99,13 +102,20 @@ passed j (shared X ∷ ps) κs a = (a.0.now, passed (suc j) ps κs.1 a.1)
 passed j (mutable X ∷ ps) κs a = (a.0.now, passed (suc j) ps κs.1 a.1)
 passed j (single X ∷ ps) κs a = (a.0.now, passed (suc j) ps κs.1 a.1)
 
--- what is said of the last values
+-- what is said of the last values: each is the last under its reference's name, and the reference's borrow is there, closed
+module _ (X : Value) (κ : Lft) where
+  abbrev pub slice_left : MutBor (List (Of X)) → List (Of X) → Fml
+  slice_left x zs = fsep (fsep (finally X.row x.ghost_name zs) (feq ℕ (length zs) (length x.now))) (fbor κ (Held X.row (length x.now) x.ref_ptr.0 x.ref_ptr.1 x.ghost_name))
+
+  abbrev pub value_left : MutBor (Of X) → Of X → Fml
+  value_left x z = fsep (fres x.ghost_name (X.row.coded.code z)) (fbor κ (Borrowed (mem X.row) x.ref_ptr.0 x.ref_ptr.1 x.ghost_name))
+
 abbrev pub lasts : (j : ℕ) (ps : List Param) (κs : Lfts (refs ps)) → Denots (rows j ps κs) → Left ps → Fml
 lasts j [] κs a ws = ftrue
 lasts j (plain X ∷ ps) κs a ws = fsep ftrue (lasts j ps κs a.1 ws.1)
 lasts j (shared X ∷ ps) κs a ws = fsep ftrue (lasts (suc j) ps κs.1 a.1 ws.1)
-lasts j (mutable X ∷ ps) κs a ws = fsep (fsep (finally X.row a.0.ghost_name ws.0) (feq ℕ (length ws.0) (length a.0.now))) (lasts (suc j) ps κs.1 a.1 ws.1)
-lasts j (single X ∷ ps) κs a ws = fsep (fres a.0.ghost_name (X.row.coded.code ws.0)) (lasts (suc j) ps κs.1 a.1 ws.1)
+lasts j (mutable X ∷ ps) κs a ws = fsep (slice_left X κs.0 a.0 ws.0) (lasts (suc j) ps κs.1 a.1 ws.1)
+lasts j (single X ∷ ps) κs a ws = fsep (value_left X κs.0 a.0 ws.0) (lasts (suc j) ps κs.1 a.1 ws.1)
 
 module _ {M : Type 1} (𝓤 : Ura M) where
   abbrev pub asks : {Y : Type 0} → Option (Y → Type 0) → Y → SProp 𝓤

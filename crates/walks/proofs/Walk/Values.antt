@@ -1,5 +1,5 @@
 -- Plain data as the walks cite it: a type that owns only facts, with its one machine value and its laws.
---     Value            the type's row, the machine value as a function of the denotation, and what is proved of them
+--     Value            the type's row, the machine value as a function of the denotation, and what is proved of them: also that it has one MIR type (`one`), and how a `&` to it is made and read (`copied`)
 --     Fits X x         x is a value of the type, at its machine value
 --     number, boolean, nothing, struct, choice, array      an unsigned number, a truth value, `()`, a declared struct (`Struct`) or enum (`Enum`), and an array of values
 -- Assumes nothing; the laws under a model assume `Logic`.
@@ -14,6 +14,8 @@ use denote.RattleType.{RattleType}
 use denote.Shadow.{Pure, makes_shadow, pure_l, pure_i}
 use denote.Laws.{Is, Tells, Makes, Lawful, Copy}
 use denote.Memory.{pointee}
+use denote.ArrayMemory.{Single}
+use denote.Copied.{Copied, uint_Copied, bool_Copied, Nothing-Copied, Array-Copied}
 use denote.Plain.{UInt, Boolean, Nothing, uint_Tells, uint_Lawful, bool_Tells, bool_Lawful, Nothing-Tells, Nothing-Lawful}
 use denote.Array.{Array, each, array_val, Array-Tells, Array-Lawful}
 use denote.Struct.Struct.{Plains, layout, Struct-Pure}
@@ -25,10 +27,12 @@ use denote.Enum.Laws as EL
 
 pub record Value : Type 2 where
   pub row : RattleType
+  pub one : Single row.mir
   pub val : row.Denot → Val
   pub tells : Tells row (Is row) (λ x. val x ∷ [])
   pub pure : (x : row.Denot) (vs : List Val) → Pure (row.own_val x vs)
   pub lawful : {M : Type 1} {𝓤 : Ura M} (𝓛 : Logic 𝓤) → Lawful 𝓛 row
+  pub copied : {M : Type 1} {𝓤 : Ura M} (𝓛 : Logic 𝓤) → Copied 𝓛 row
 
 abbrev pub Of : Value → Type 0
 Of X = X.row.Denot
@@ -39,28 +43,34 @@ Fits X x = Is X.row x (X.val x ∷ [])
 abbrev pub number : Width → Value
 number w = record {
   row = UInt w;
+  one = tt;
   val = vint w;
   tells = uint_Tells w;
   pure = λ n vs. (tt, tt);
   lawful = λ 𝓛. uint_Lawful 𝓛 w;
+  copied = λ 𝓛. uint_Copied 𝓛 w;
 }
 
 abbrev pub boolean : Value
 boolean = record {
   row = Boolean;
+  one = tt;
   val = vbool;
   tells = bool_Tells;
   pure = λ z vs. tt;
   lawful = λ 𝓛. bool_Lawful 𝓛;
+  copied = λ 𝓛. bool_Copied 𝓛;
 }
 
 abbrev pub nothing : Value
 nothing = record {
   row = Nothing;
+  one = tt;
   val = λ u. vunit;
   tells = Nothing-Tells;
   pure = λ u vs. tt;
   lawful = λ 𝓛. Nothing-Lawful 𝓛;
+  copied = λ 𝓛. Nothing-Copied 𝓛;
 }
 
 -- a declared type of plain data
@@ -68,14 +78,17 @@ pub record Struct : Type 2 where
   pub type : Declared
   pub laws : LL.Laws type
   pub plain : Plains (fields type)
+  pub copy : LL.Copyables type.parts
 
 abbrev pub struct : Struct → Value
 struct S = record {
   row = row_of S.type;
+  one = tt;
   val = LL.val S.type S.laws;
   tells = LL.tells S.type S.laws;
   pure = λ x. Struct-Pure (shape S.type) S.plain (S.type.to x);
   lawful = λ 𝓛. LL.lawful S.type S.laws 𝓛;
+  copied = λ 𝓛. LL.copied S.type S.copy 𝓛;
 }
 
 -- its MIR type: by value, and behind a reference, where it is its name
@@ -90,15 +103,18 @@ pub record Enum : Type 2 where
   pub type : ED.Declared
   pub laws : EL.Laws type
   pub plain : Plainss (ED.variants type)
+  pub copy : EL.Copyabless type.parts
   pub few : Few (ED.shape type)
 
 abbrev pub choice : Enum → Value
 choice E = record {
   row = ED.row E.type;
+  one = tt;
   val = EL.val E.type E.laws;
   tells = EL.tells E.type E.laws;
   pure = EL.pure E.type E.plain;
   lawful = λ 𝓛. EL.lawful E.type E.laws 𝓛 E.few;
+  copied = λ 𝓛. EL.copied E.type E.copy 𝓛;
 }
 
 -- its MIR type, by value
@@ -114,10 +130,12 @@ each_pure X (x ∷ xs) (u ∷ us) = (X.pure x (u ∷ []), each_pure X xs us)
 abbrev pub array : Value → ℕ → Value
 array X n = record {
   row = Array X.row n;
+  one = tt;
   val = λ xs. array_val (map X.val xs);
   tells = Array-Tells X.row (λ x. X.val x ∷ []) X.tells n;
   pure = λ xs vs us. ((tt, tt), each_pure X xs us);
   lawful = λ 𝓛. Array-Lawful 𝓛 X.row (X.lawful 𝓛) n;
+  copied = λ 𝓛. Array-Copied 𝓛 X.row (X.copied 𝓛) X.one n;
 }
 
 module _ {M : Type 1} {𝓤 : Ura M} (𝓛 : Logic 𝓤) (X : Value) where
