@@ -26,11 +26,11 @@ use types.Run.{look, look_raw, init, store_raw, stop, hop, from, load, lit, unit
 use denote.RattleType.{RattleType}
 use denote.Laws.{Is, shows}
 use denote.Ref.{Bor}
-use denote.Slice.{slice_ty, shr_slice_vals, ShrSlice, Room, shr_slice_copy}
+use denote.Slice.{slice_ty, shr_slice_vals, ShrSlice, Room}
 use denote.Index.{row as records, place as place_of, place_is, elem_out, elem_back, elem_put, looks_slice, shuts_slice}
 use denote.Steps.{owned as made}
 use denote.Triple.Statement.{Triple}
-use Rattle.walks.proofs.Walk.Values.{Of, Fits, Struct, struct, by_value, by_name, number, nothing, makes, copy as copies}
+use Rattle.walks.proofs.Walk.Values.{Of, Fits, Struct, struct, by_value, by_name, number, nothing, makes, shown_twice}
 use Rattle.walks.proofs.Walk.Terms.{Terms, plain, shared, mutable, triple}
 use Rattle.walks.proofs.Walk.Body.{Blocks, Walk, walks, ends}
 use Rattle.walks.proofs.Walk.Locals.{at, pointer, sets, reads_as}
@@ -90,8 +90,8 @@ module _ {M : Type 1} {𝓤 : Ura M} {𝓛 : Logic 𝓤} {K : Type 0} {Γ : List
       → Seq K 𝓛 (‵ (flft κ q) ∷ reference 𝓤 S κ xs ∷ Γ) (runs C Λ E (seq (assign (place d []) (rv_opd (copy (place p (deref (by_value S) ∷ []))))) rest) o)
   reads t S κ q xs i none l m n at_p at-d ty k =
       -- a copy of the reference is looked into
-      move t (1 ∷ []) $ use1 𝓛 (reference 𝓤 S κ xs ⊛ reference 𝓤 S κ xs) ((shr_slice_copy 𝓛 (named 0) κ R).twice xs (shr_slice_vals xs)) $ split t $ fsplit t $ drop t $ fsplit t $ drop t $ move t (0 ∷ 2 ∷ []) $
-      looks_slice t tt R (Is R) (shows 𝓛 R) (λ x. (struct S).val x ∷ []) (struct S).tells (copies 𝓛 (struct S)) xs.now xs.ref_ptr.0 xs.ref_ptr.1 (λ q'.
+      move t (1 ∷ []) $ use1 𝓛 (reference 𝓤 S κ xs ⊛ reference 𝓤 S κ xs) (shown_twice 𝓛 (struct S) κ xs) $ split t $ fsplit t $ drop t $ fsplit t $ drop t $ move t (0 ∷ 2 ∷ []) $
+      looks_slice t tt R ((struct S).copied 𝓛) xs.now xs.ref_ptr.0 xs.ref_ptr.1 (λ q'.
       -- [the records; what shuts; the fractured borrow; the reference; …]
       takes t S q' xs.now xs.ref_ptr.0 xs.ref_ptr.1 i none l (suc (suc (suc m))) (suc (suc (suc n))) at_p at-d ty (λ is. shuts_slice t tt R q' xs.now xs.ref_ptr.0 xs.ref_ptr.1 $ move t (1 ∷ []) $ drop t $ k is))
     where
@@ -118,6 +118,8 @@ module _ (S : Struct) (none : Of (struct S)) where
   get_mir = record {
     lifetimes = 1;
     outlives = [];
+    ty_params = [];
+    givens = 0;
     params = 2;
     locals = local ty value_local ∷ local (slice_ty (ty_ref (named 0) imm (by_name S))) value_local ∷ local (ty_int w64) value_local ∷ local (ty_int w64) value_local ∷ local ty_ptr value_local ∷ local ty value_local ∷ [];
     body = seq (assign (place 3 []) (op2 (mul unsigned) (copy (place 2 [])) (int w64 (size ty))))
@@ -138,6 +140,8 @@ module _ (S : Struct) (none : Of (struct S)) where
   put_mir = record {
     lifetimes = 1;
     outlives = [];
+    ty_params = [];
+    givens = 0;
     params = 3;
     locals = local ty_unit value_local ∷ local (slice_ty (ty_ref (named 0) mut (by_name S))) value_local ∷ local (ty_int w64) value_local ∷ local ty value_local ∷ local (ty_int w64) value_local ∷ local ty_ptr value_local ∷ [];
     body = seq (assign (place 4 []) (op2 (mul unsigned) (copy (place 2 [])) (int w64 (size ty))))

@@ -21,7 +21,7 @@ use lib.WfN.{lt-wf_rel}
 use borrow.Author.Tests.{ltb-true, ltb-false}
 use seplogic.Ra.Ura.{Ura}
 use base.Fraction.{full_share}
-use mir.Syntax.{Name, Ty, Body, Fn, local, value_local, memory_slot, named, imm, unsigned, w64, ty_int, ty_bool, ty_ptr, ty_ref, ty_array, place, field, deref, copy, int, rv_opd, op2, addr_of, add, mul, lt, offset, assign, call, seq, cond, block, loop, skip, exit, return}
+use mir.Syntax.{Callee, Ty, Body, Fn, local, value_local, memory_slot, named, imm, unsigned, w64, ty_int, ty_bool, ty_ptr, ty_ref, ty_array, place, field, deref, copy, int, rv_opd, op2, addr_of, add, mul, lt, offset, assign, call, seq, cond, block, loop, skip, exit, return}
 use mir.Val.{Val, vint, vbool, vptr}
 use base.Fml.{Lft, Share, flft}
 use prog.Memory.{size}
@@ -99,7 +99,7 @@ module _ (S : Struct) (none : Of (struct S)) (N : ℕ) where
     ensures = λ a r ws. r ≡ take a.1.0 a.0 ++ replicate (N - a.1.0) none;
   }
 
-  module _ (blank : Name) where
+  module _ (blank : Callee) where
     abbrev turn : Body
     turn = seq (assign (place 6 []) (op2 (lt unsigned) (copy (place 4 [])) (copy (place 2 []))))
         (seq (cond (copy (place 6 [])) skip (exit 1))
@@ -119,6 +119,8 @@ module _ (S : Struct) (none : Of (struct S)) (N : ℕ) where
     load_mir = record {
       lifetimes = 1;
       outlives = [];
+      ty_params = [];
+      givens = 0;
       params = 2;
       locals = local arr value_local ∷ local shr value_local ∷ local (ty_int w64) value_local ∷ local arr memory_slot ∷ local (ty_int w64) value_local ∷ local arr value_local ∷ local ty_bool value_local ∷ local (ty_int w64) value_local ∷ local ty_ptr value_local ∷ local ty value_local
           ∷ local (ty_int w64) value_local ∷ local ty_ptr value_local ∷ local ty_ptr value_local ∷ [];
@@ -178,7 +180,7 @@ module _ (S : Struct) (none : Of (struct S)) (N : ℕ) where
             all : s.i ≡ n
             all = omega (arith, g, s.le)
 
-        more : (s : Turns) → ltb s.i n ≡ true → Sq 𝓛 (Inv s) (turns {𝓛 = 𝓛} 𝓣 (fewer xs.now n) Inv E turn rest Q s)
+        more : (s : Turns) → ltb s.i n ≡ true → Sq 𝓛 (Inv s) (turns 𝓛 𝓣 (fewer xs.now n) Inv E turn rest Q s)
         unfolding after_turn next
         more s z =
             sets ! 8 refl (bin ! (at ! 6 refl) (at ! 4 refl) tt) (tt, tt) $ reads_as ! 8 refl (ap vbool z) $ stays ! (at ! 8 refl) $
@@ -220,10 +222,10 @@ module _ (S : Struct) (none : Of (struct S)) (N : ℕ) where
             falls : (k : ℕ) → k < n → n - (k + 1) < n - k
             falls k g = omega (arith, g)
 
-        done : (s : Turns) → ltb s.i n ≡ false → Sq 𝓛 (Inv s) (turns {𝓛 = 𝓛} 𝓣 (fewer xs.now n) Inv E turn rest Q s)
+        done : (s : Turns) → ltb s.i n ≡ false → Sq 𝓛 (Inv s) (turns 𝓛 𝓣 (fewer xs.now n) Inv E turn rest Q s)
         done s z = sets ! 8 refl (bin ! (at ! 6 refl) (at ! 4 refl) tt) (tt, tt) $ reads_as ! 8 refl (ap vbool z) $ leaves_rest ! (Below 𝓛 (fewer xs.now n) Inv s) rest Q (at ! 8 refl) $ after s (ltb-false s.i n z)
 
-        each_turn : (s : Turns) → Turn {𝓛 = 𝓛} (Go {0}) 𝓣 (fewer xs.now n) Inv E turn rest Q s
+        each_turn : (s : Turns) → Turn 𝓛 (Go {0}) 𝓣 (fewer xs.now n) Inv E turn rest Q s
         each_turn s = turn_of 𝓣 (fewer xs.now n) Inv E turn rest Q s (elim (tests (ltb s.i n)) [ inl z ↦ more s z | inr z ↦ done s z ])
 
         load_walk : Triple 𝓤 (𝓣.C blank) (triple 𝓛 blank_terms) → Walk 𝓛 load_terms load_mir 𝓣.C 𝓣.Λ (κ, tt) (q, tt) (xs, (n, tt)) bs

@@ -8,7 +8,7 @@ use mathlib.Core.Option.{some, none}
 use mathlib.Core.List.{[], ◌∷◌}
 use lib.Dec.{T as Holds}
 use seplogic.Ra.Ura.{Ura}
-use mir.Syntax.{Name, Fn, local, value_local, named, mut, ty_unit, ty_ref, place, deref, copy, opd_unit, rv_opd, assign, call, seq, return}
+use mir.Syntax.{Callee, Fn, local, value_local, named, mut, ty_unit, ty_ref, place, deref, copy, opd_unit, rv_opd, assign, call, seq, return}
 use mir.Val.{has_ty, WT}
 use base.Fml.{Lft, Share}
 use prog.Wp.{Calls, Loops, WpFn}
@@ -16,7 +16,7 @@ use types.Logic.{Logic}
 use types.Kit.{◌$◌, ! }
 use types.Run.{look, look_raw, store_raw, stop, hop, from, load, unit_lit, of_opd, assigns}
 use sound.WpLaws.{FmC}
-use denote.Ref.{Bor}
+use denote.Ref.{MutBor}
 use denote.Triple.Statement.{Triple}
 use Rattle.walks.proofs.Walk.Values.{Of, Fits, Struct, struct, by_value, by_name, nothing}
 use Rattle.walks.proofs.Walk.Terms.{Terms, plain, single, triple}
@@ -42,11 +42,13 @@ module _ (S F : Struct) (to : Of (struct F) → Of (struct S) → Of (struct S))
     ensures = λ a r ws. ws.0 ≡ to a.1.0 a.0;
   }
 
-  module _ (with : Name) where
+  module _ (with : Callee) where
     abbrev pub set_mir : Fn
     set_mir = record {
       lifetimes = 1;
       outlives = [];
+      ty_params = [];
+      givens = 0;
       params = 2;
       locals = local ty_unit value_local ∷ local (ty_ref (named 0) mut (by_name S)) value_local ∷ local (by_value F) value_local ∷ local (by_value S) value_local ∷ local (by_value S) value_local ∷ [];
       body = seq (assign (place 4 []) (rv_opd (copy (place 1 (deref (by_value S) ∷ [])))))
@@ -61,7 +63,7 @@ module _ (S F : Struct) (to : Of (struct F) → Of (struct S) → Of (struct S))
       typed : (x : Of (struct S)) → Fits (struct S) x → Holds (has_ty (by_value S) ((struct S).val x)) × WT ((struct S).val x)
       typed x is = (((struct S).lawful 𝓛).typed x _ is).0
 
-      module _ (κ : Lft) (q : Share) (s : Bor (Of (struct S))) (f : Of (struct F)) (is_f : Fits (struct F) f) where
+      module _ (κ : Lft) (q : Share) (s : MutBor (Of (struct S))) (f : Of (struct F)) (is_f : Fits (struct F) f) where
         walk : (bs : Blocks set_mir.locals) → Walk 𝓛 set_terms set_mir C Λ (κ, tt) (q, tt) (s, (f, tt)) bs
         walk bs =
             value_out ! (struct S) s.now s.ref_ptr.0 s.ref_ptr.1 (λ is-s.

@@ -29,7 +29,7 @@ use prog.Wp.{Env, WpFn, Tables, after_turn}
 use types.Logic.{Logic}
 use types.Kit.{Go, Item, Sq, Post, runs, at_ret, ‵, ◌$◌, !, move, rewrite}
 use types.Run.{Below, store, forget, stop, from, lit, addr, unit_lit, of_opd, bin, assigns_last, stays, again}
-use denote.Ref.{Bor}
+use denote.Ref.{MutBor}
 use denote.Slice.{slice_ty, slice_val, Room}
 use denote.Index.{row as records, place_is}
 use denote.Triple.Statement.{Triple}
@@ -99,6 +99,8 @@ module _ (S : Struct) (none : Of (struct S)) (N : ℕ) where
   store_mir = record {
     lifetimes = 1;
     outlives = [];
+    ty_params = [];
+    givens = 0;
     params = 2;
     locals = local ty_unit value_local ∷ local slice value_local ∷ local (ty_array ty N) value_local ∷ local (ty_array ty N) memory_slot ∷ local (ty_int w64) value_local ∷ local ty_bool value_local ∷ local (ty_int w64) value_local ∷ local ty_ptr value_local ∷ local ty_ptr value_local
         ∷ local ty value_local ∷ local (ty_int w64) value_local ∷ local ty_ptr value_local ∷ [];
@@ -122,7 +124,7 @@ module _ (S : Struct) (none : Of (struct S)) (N : ℕ) where
   module _ (small : Holds (ltb (size ty) (2 ^ 64))) (N-small : Holds (ltb N (2 ^ 64))) {M : Type 1} {𝓤 : Ura M} (𝓛 : Logic 𝓤) (𝓣 : Tables 𝓤 𝓛.H) where
     open 𝓛 use {H}
 
-    module _ (κ : Lft) (q : Share) (xs : Bor (List D)) (t : List D) (room : Room (struct S).row (length xs.now)) (is-t : Fits Records t) (long : length xs.now ≡ N) (bs : Blocks store_mir.locals) where
+    module _ (κ : Lft) (q : Share) (xs : MutBor (List D)) (t : List D) (room : Room (struct S).row (length xs.now)) (is-t : Fits Records t) (long : length xs.now ≡ N) (bs : Blocks store_mir.locals) where
       abbrev E : Env 𝓤 H
       E = env 𝓤 H store_mir.locals bs
 
@@ -154,7 +156,7 @@ module _ (S : Struct) (none : Of (struct S)) (N : ℕ) where
           sets ! 2 refl (of_opd ! (unit_lit !)) (tt, tt) $ ends store_terms (κ, tt) (q, tt) (xs, (t, tt)) (some _ ∷ some _ ∷ some _ ∷ some _ ∷ some _ ∷ []) tt (zs s.i, (tt, tt)) ! refl
           (stored_length none t xs.now same_length s.i (omega (arith, s.le, long)), (tt, tt)) (stored_all none t xs.now same_length s.i (omega (arith, g, long)))
 
-      more : (s : State) → ltb s.i N ≡ true → Sq 𝓛 (Inv s) (turns {𝓛 = 𝓛} 𝓣 fewer Inv E turn rest Q s)
+      more : (s : State) → ltb s.i N ≡ true → Sq 𝓛 (Inv s) (turns 𝓛 𝓣 fewer Inv E turn rest Q s)
       unfolding after_turn next
       more s z =
           sets ! 7 refl (bin ! (at ! 6 refl) (lit ! N-small) tt) (tt, tt) $ reads_as ! 7 refl (ap vbool z) $ stays ! (at ! 7 refl) $
@@ -189,10 +191,10 @@ module _ (S : Struct) (none : Of (struct S)) (N : ℕ) where
           falls : (k : ℕ) → k < N → N - (k + 1) < N - k
           falls k g = omega (arith, g)
 
-      done : (s : State) → ltb s.i N ≡ false → Sq 𝓛 (Inv s) (turns {𝓛 = 𝓛} 𝓣 fewer Inv E turn rest Q s)
+      done : (s : State) → ltb s.i N ≡ false → Sq 𝓛 (Inv s) (turns 𝓛 𝓣 fewer Inv E turn rest Q s)
       done s z = sets ! 7 refl (bin ! (at ! 6 refl) (lit ! N-small) tt) (tt, tt) $ reads_as ! 7 refl (ap vbool z) $ leaves_rest ! (Below 𝓛 fewer Inv s) rest Q (at ! 7 refl) $ after s (ltb-false s.i N z)
 
-      each_turn : (s : State) → Turn {𝓛 = 𝓛} (Go {0}) 𝓣 fewer Inv E turn rest Q s
+      each_turn : (s : State) → Turn 𝓛 (Go {0}) 𝓣 fewer Inv E turn rest Q s
       each_turn s = turn_of 𝓣 fewer Inv E turn rest Q s (elim (tests (ltb s.i N)) [ inl z ↦ more s z | inr z ↦ done s z ])
 
       store_walk : Walk 𝓛 store_terms store_mir 𝓣.C 𝓣.Λ (κ, tt) (q, tt) (xs, (t, tt)) bs

@@ -11,10 +11,10 @@ use mathlib.Core.List.{List, [], ◌∷◌, ◌++◌}
 use lib.ListN.{length}
 use seplogic.Ra.Ura.{Ura}
 use base.Fraction.{full_share}
-use mir.Syntax.{Opd as Operand, Name, Place, Body, named, seq, call}
+use mir.Syntax.{Opd as Operand, Callee, Place, Body, named, seq, call}
 use mir.Val.{Val, vptr}
 use base.Logic.{SProp, ent, sep, wand, ex, guard, emp, id⊢, via, comm∗, mono_l, wand_i, apply∗}
-use base.Fml.{Lft, GName, Share, Fml, ftrue, fsep, feq, flft, flent, fres}
+use base.Fml.{Lft, GName, Share, Fml, ftrue, fsep, flft, flent, fhide}
 use prog.Wp.{Env, Calls, Loops, eval_opds}
 use types.Logic.{Logic, sem}
 use contract.Monad.{fact, fact_i}
@@ -22,21 +22,22 @@ use contract.Lifetimes.{Lfts, Shares, toks}
 use types.Kit.{Item, Seq, Post, runs, lands, mean, ⋆, pop, push, ++⊢, ⊢++, ‵, raw, some, given, later, ◌⊛◌, ◌$◌, ◌∵◌, !, qed, by, cut, move, drop, use0, use1, use3, split, split3, join, pick, learn, fsplit, feq_i, fjoin, feq_l, show, check, frame, await, updating, now as at_once, done}
 use types.Run.{Opds}
 use types.SemTy.{cells, Arr, Body as Borrowed}
-use types.Share.{arr_parts}
 use types.Tokens.{lft_new, lft_end, lent_back}
 use sound.WpLaws.{FmC, eval_opds_fm}
 use denote.RattleType.{Denots, flat, owns}
 use denote.Laws.{Is, shows}
-use denote.Memory.{mem, part_at, shares as shares_of}
+use denote.Memory.{mem, part_at}
 use denote.Ref.{Bor, MutBor, MutRef}
-use denote.Slice.{slice_val, mut_slice_vals, ShrSlice, MutSlice, Room, finally, shr_slice_copy}
-use denote.Lend.{Held, lends_slice, lends_shr_slice, lends_ref, slice_back, ref_back}
+use denote.Slice.{slice_val, shr_slice_vals, shr_slice_at, ShrSlice, MutSlice, Room, elements_shared}
+use denote.Lend.{Held, lends_slice, lends_ref, slice_back, ref_back}
+use denote.Copied.{each_lends}
+use denote.Shadow.{pure_i}
 use denote.Index.{row as records, whole_in, whole_out}
 use denote.Steps.{nothing, owned as made, peeks, heard, only}
 use denote.Triple.Statement.{Triple}
 use denote.Triple.Call.{calls_at}
-use Rattle.walks.proofs.Walk.Values.{Value, Of, Fits, makes}
-use Rattle.walks.proofs.Walk.Terms.{Param, plain, shared, mutable, single, Passed, Left, Sized, Terms, Asks, refs, rows, machine_values, passed, lasts, asks, triple}
+use Rattle.walks.proofs.Walk.Values.{Value, Of, Fits, makes, shown_twice}
+use Rattle.walks.proofs.Walk.Terms.{Param, plain, shared, mutable, single, Passed, Left, Sized, Terms, Asks, refs, rows, machine_values, passed, slice_left, value_left, lasts, asks, triple}
 
 -- ---- the arguments
 pub data Shown (X : Value) : Type 0 where
@@ -62,7 +63,7 @@ module _ (X : Value) where
   place_of (held x κ q) = x.ref_ptr
   place_of (owned ys p room) = p
 
-  -- the lifetime, its share and the reference's name: the caller's, or those that are made for the call
+  -- the lifetime and its share: the caller's, or those that are made for the call
   abbrev pub lft_of : Shown X → ℕ × GName → Lft
   lft_of (held x κ q) n = κ
   lft_of (owned ys p room) n = n.0 ∷ []
@@ -71,12 +72,15 @@ module _ (X : Value) where
   share_of_lem (held x κ q) = q
   share_of_lem (owned ys p room) = full_share
 
-  abbrev pub name_of : Shown X → ℕ × GName → GName
-  name_of (held x κ q) n = x.ghost_name
-  name_of (owned ys p room) n = n.1
+  -- the reference: a `&[T]` has no name, and a `&mut [T]` has one
+  abbrev pub shown_at : Shown X → Bor (List (Of X))
+  shown_at x = record { ref_ptr = place_of x; now = elements x }
 
   abbrev pub slice_at : ℕ × ℕ → GName → List (Of X) → MutBor (List (Of X))
   slice_at p γ ys = record { ref_ptr = p; ghost_name = γ; now = ys }
+
+  abbrev pub value_at : ℕ × ℕ → GName → Of X → MutBor (Of X)
+  value_at p γ x = record { ref_ptr = p; ghost_name = γ; now = x }
 
 -- the values passed, and their machine values
 abbrev pub values : (ps : List Param) → Args ps → Passed ps
@@ -118,9 +122,9 @@ shares (single X ∷ ps) s = (full_share, shares ps s.1)
 abbrev denots : (j : ℕ) (ps : List Param) (s : Args ps) (ns : Names ps) → Denots (rows j ps (lfts ps s ns))
 denots j [] s ns = tt
 denots j (plain X ∷ ps) s ns = (s.0.0, denots j ps s.1 ns)
-denots j (shared X ∷ ps) s ns = (slice_at X (place_of X s.0) (name_of X s.0 ns.0) (elements X s.0), denots (suc j) ps s.1 ns.1)
+denots j (shared X ∷ ps) s ns = (shown_at X s.0, denots (suc j) ps s.1 ns.1)
 denots j (mutable X ∷ ps) s ns = (slice_at X s.0.1 ns.0.1 s.0.0, denots (suc j) ps s.1 ns.1)
-denots j (single X ∷ ps) s ns = (record { ref_ptr = s.0.1; ghost_name = ns.0.1; now = s.0.0 }, denots (suc j) ps s.1 ns.1)
+denots j (single X ∷ ps) s ns = (value_at X s.0.1 ns.0.1 s.0.0, denots (suc j) ps s.1 ns.1)
 
 flat_is : (j : ℕ) (ps : List Param) (s : Args ps) (ns : Names ps) → machine ps s ≡ flat (rows j ps (lfts ps s ns)) (machine_values j ps (lfts ps s ns) (denots j ps s ns))
 flat_is j [] s ns = refl
@@ -142,11 +146,11 @@ Name² = ℕ × GName
 
 module _ (X : Value) where
   abbrev shown_own : Shown X → Name² → Fml
-  shown_own x n = (ShrSlice (named 0) (lft_of X x n) X.row).own_val (slice_at X (place_of X x) (name_of X x n) (elements X x)) (slice_val (place_of X x) (length (elements X x)) ∷ [])
+  shown_own x n = (ShrSlice (named 0) (lft_of X x n) X.row).own_val (shown_at X x) (shr_slice_vals (shown_at X x))
 
   abbrev shown_kept : Shown X → Name² → Fml
   shown_kept (held x κ q) n = shown_own (held x κ q) n
-  shown_kept (owned ys p room) n = flent (n.0 ∷ []) ((arr_parts (shares_of X.row) (length ys)).part full_share ys p.0 p.1)
+  shown_kept (owned ys p room) n = flent (n.0 ∷ []) (records X.row full_share ys p.0 p.1)
 
   abbrev slice_own : Arg (mutable X) → Name² → Fml
   slice_own x n = (MutSlice (named 0) (n.0 ∷ []) X.row).own_val (slice_at X x.1 n.1 x.0) (slice_val x.1 (length x.0) ∷ [])
@@ -155,17 +159,20 @@ module _ (X : Value) where
   slice_kept x n = flent (n.0 ∷ []) (Held X.row (length x.0) x.1.0 x.1.1 n.1)
 
   abbrev slice_last : Arg (mutable X) → Name² → List (Of X) → Fml
-  slice_last x n zs = fsep (finally X.row n.1 zs) (feq ℕ (length zs) (length x.0))
+  slice_last x n zs = slice_left X (n.0 ∷ []) (slice_at X x.1 n.1 x.0) zs
 
   abbrev value_own : Arg (single X) → Name² → Fml
-  value_own x n = (MutRef (named 0) (n.0 ∷ []) X.row).own_val (record { ref_ptr = x.1; ghost_name = n.1; now = x.0 }) (vptr x.1.0 x.1.1 ∷ [])
+  value_own x n = (MutRef (named 0) (n.0 ∷ []) X.row).own_val (value_at X x.1 n.1 x.0) (vptr x.1.0 x.1.1 ∷ [])
 
   abbrev value_kept : Arg (single X) → Name² → Fml
   value_kept x n = flent (n.0 ∷ []) (Borrowed (mem X.row) x.1.0 x.1.1 n.1)
 
+  abbrev value_last : Arg (single X) → Name² → Of X → Fml
+  value_last x n z = value_left X (n.0 ∷ []) (value_at X x.1 n.1 x.0) z
+
   module _ {M : Type 1} (𝓤 : Ura M) where
     abbrev pub shown_item : Shown X → List (Item 𝓤)
-    shown_item (held x κ q) = ‵ (flft κ q) ∷ ‵ (shown_own (held x κ q) (zero, x.ghost_name)) ∷ []
+    shown_item (held x κ q) = ‵ (flft κ q) ∷ ‵ (shown_own (held x κ q) (zero, zero)) ∷ []
     shown_item (owned ys p room) = ‵ (records X.row full_share ys p.0 p.1) ∷ []
 
     abbrev pub slice_item : Arg (mutable X) → List (Of X) → List (Item 𝓤)
@@ -224,18 +231,19 @@ module _ {M : Type 1} {𝓤 : Ura M} (𝓛 : Logic 𝓤) where
     shows_slice : (x : Shown X) → Lends (shown_item X 𝓤 x) (lft_of X x) (share_of_lem X x) (shown_own X x) (shown_kept X x)
     shows_slice (held r κ q) =
         let x : Shown X = held r κ q in
-        qed 𝓛 (shown_item X 𝓤 x) ∵ updating ! $ at_once ! $ show ! (Lending (shown_item X 𝓤 x) (lft_of X x) (share_of_lem X x) (shown_own X x) (shown_kept X x)) (zero, r.ghost_name) $ frame ! $
-        use1 𝓛 (‵ (shown_own X x (zero, r.ghost_name)) ⊛ ‵ (shown_own X x (zero, r.ghost_name))) ((shr_slice_copy 𝓛 (named 0) κ X.row).twice r (mut_slice_vals r)) $ done !
+        qed 𝓛 (shown_item X 𝓤 x) ∵ updating ! $ at_once ! $ show ! (Lending (shown_item X 𝓤 x) (lft_of X x) (share_of_lem X x) (shown_own X x) (shown_kept X x)) (zero, zero) $ frame ! $
+        use1 𝓛 (‵ (shown_own X x (zero, zero)) ⊛ ‵ (shown_own X x (zero, zero))) (shown_twice 𝓛 X κ (shown_at X x)) $ done !
     shows_slice (owned ys p room) =
         let x : Shown X = owned ys p room in
-        qed 𝓛 (shown_item X 𝓤 x) ∵ updating ! $ feq_i ! ℕ (length ys) (length ys) refl $ fjoin ! $ lft_new ! tt (λ ν. move ! (1 ∷ []) $
-        use1 𝓛 (later (some (λ (δ : GName). ‵ (shown_own X x (ν, δ)) ⊛ ‵ (shown_kept X x (ν, δ))))) (lends_shr_slice 𝓛 X.row (named 0) (ν ∷ []) full_share ys p.0 p.1 room) $ await ! tt $ pick ! (λ δ. at_once ! $
-        show ! (Lending (shown_item X 𝓤 x) (lft_of X x) (share_of_lem X x) (shown_own X x) (shown_kept X x)) (ν, δ) $ move ! (1 ∷ 0 ∷ []) $ done !))
+        qed 𝓛 (shown_item X 𝓤 x) ∵ updating ! $ lft_new ! tt (λ ν. move ! (1 ∷ []) $
+        use1 𝓛 (later (‵ (fhide (elements_shared X.row ys p.0 p.1 (ν ∷ []))) ⊛ ‵ (shown_kept X x (ν, zero)))) (each_lends 𝓛 X.row (X.copied 𝓛) full_share ys p.0 p.1 (ν ∷ [])) $ await ! tt $ split ! $ at_once ! $
+        show ! (Lending (shown_item X 𝓤 x) (lft_of X x) (share_of_lem X x) (shown_own X x) (shown_kept X x)) (ν, zero) $ move ! (2 ∷ []) $ frame ! $
+        pure_i ! (shr_slice_at X.row (shown_at X x) (shr_slice_vals (shown_at X x))) (tt, (tt, tt)) (refl, room) $ fjoin ! $ done !)
 
     shown_returns : (x : Shown X) (n : Name²) → Returns (shown_item X 𝓤 x) (lft_of X x n) (share_of_lem X x) ftrue (shown_kept X x n) (Unit {0})
     shown_returns (held x κ q) n = qed 𝓛 (‵ (flft κ q) ∷ ‵ ftrue ∷ ‵ (shown_kept X (held x κ q) n) ∷ []) ∵ updating ! $ at_once ! $ check ! tt $ frame ! $ drop ! $ done !
     shown_returns (owned ys p room) n =
-        qed 𝓛 (‵ (flft (n.0 ∷ []) full_share) ∷ ‵ ftrue ∷ ‵ (shown_kept X (owned ys p room) n) ∷ []) ∵ updating ! $ lft_end ! tt $ move ! (0 ∷ 2 ∷ []) $ lent_back ! tt $ fsplit ! $ drop ! $ move ! (1 ∷ []) $ drop ! $ at_once ! $ check ! tt $ done !
+        qed 𝓛 (‵ (flft (n.0 ∷ []) full_share) ∷ ‵ ftrue ∷ ‵ (shown_kept X (owned ys p room) n) ∷ []) ∵ updating ! $ lft_end ! tt $ move ! (0 ∷ 2 ∷ []) $ lent_back ! tt $ move ! (1 ∷ []) $ drop ! $ at_once ! $ check ! tt $ done !
 
     lends_all : (x : Arg (mutable X)) → Lends (slice_item X 𝓤 x x.0) (λ n. n.0 ∷ []) full_share (slice_own X x) (slice_kept X x)
     lends_all x =
@@ -245,7 +253,7 @@ module _ {M : Type 1} {𝓤 : Ura M} (𝓛 : Logic 𝓤) where
 
     all_return : (x : Arg (mutable X)) (n : Name²) (zs : List (Of X)) → Returns (slice_item X 𝓤 x zs) (n.0 ∷ []) full_share (slice_last X x n zs) (slice_kept X x n) (length zs ≡ length x.0)
     all_return x n zs =
-        qed 𝓛 (‵ (flft (n.0 ∷ []) full_share) ∷ ‵ (slice_last X x n zs) ∷ ‵ (slice_kept X x n) ∷ []) ∵ updating ! $ lft_end ! tt $ move ! (1 ∷ []) $ fsplit ! $ move ! (1 ∷ []) $ feq_l ! (λ e. move ! (1 ∷ 2 ∷ 0 ∷ []) $
+        qed 𝓛 (‵ (flft (n.0 ∷ []) full_share) ∷ ‵ (slice_last X x n zs) ∷ ‵ (slice_kept X x n) ∷ []) ∵ updating ! $ lft_end ! tt $ move ! (1 ∷ []) $ fsplit ! $ move ! (1 ∷ []) $ drop ! $ fsplit ! $ move ! (1 ∷ []) $ feq_l ! (λ e. move ! (1 ∷ 2 ∷ 0 ∷ []) $
         use3 𝓛 (later (‵ ((Arr (mem X.row) (length x.0)).own_at zs x.1.0 x.1.1))) (slice_back 𝓛 X.row (n.0 ∷ []) n.1 zs (length x.0) x.1.0 x.1.1) $ await ! tt $ fsplit ! $ drop ! $
         use1 𝓛 (‵ (records X.row full_share zs x.1.0 x.1.1)) (whole_out 𝓛 X.row zs x.1.0 x.1.1) $ at_once ! $ check ! e $ done !)
 
@@ -255,9 +263,9 @@ module _ {M : Type 1} {𝓤 : Ura M} (𝓛 : Logic 𝓤) where
         use1 𝓛 (later (some (λ (δ : GName). ‵ (value_own X x (ν, δ)) ⊛ ‵ (value_kept X x (ν, δ))))) (lends_ref 𝓛 X.row (named 0) (ν ∷ []) x.0 x.1.0 x.1.1) $ await ! tt $ pick ! (λ δ. at_once ! $
         show ! (Lending (value_item X 𝓤 x x.0) (λ n. n.0 ∷ []) full_share (value_own X x) (value_kept X x)) (ν, δ) $ move ! (1 ∷ 0 ∷ []) $ done !))
 
-    value_returns : (x : Arg (single X)) (n : Name²) (z : Of X) → Returns (value_item X 𝓤 x z) (n.0 ∷ []) full_share (fres n.1 (X.row.coded.code z)) (value_kept X x n) (Unit {0})
+    value_returns : (x : Arg (single X)) (n : Name²) (z : Of X) → Returns (value_item X 𝓤 x z) (n.0 ∷ []) full_share (value_last X x n z) (value_kept X x n) (Unit {0})
     value_returns x n z =
-        qed 𝓛 (‵ (flft (n.0 ∷ []) full_share) ∷ ‵ (fres n.1 (X.row.coded.code z)) ∷ ‵ (value_kept X x n) ∷ []) ∵ updating ! $ lft_end ! tt $ move ! (0 ∷ 2 ∷ 1 ∷ []) $
+        qed 𝓛 (‵ (flft (n.0 ∷ []) full_share) ∷ ‵ (value_last X x n z) ∷ ‵ (value_kept X x n) ∷ []) ∵ updating ! $ lft_end ! tt $ move ! (1 ∷ []) $ fsplit ! $ move ! (1 ∷ []) $ drop ! $ move ! (1 ∷ 2 ∷ 0 ∷ []) $
         use3 𝓛 (later (‵ (part_at X.row full_share z x.1.0 x.1.1))) (ref_back 𝓛 X.row (n.0 ∷ []) n.1 z x.1.0 x.1.1) $ await ! tt $ at_once ! $ check ! tt $ done !
 
   -- ---- all of them, one after the other
@@ -315,7 +323,7 @@ module _ {M : Type 1} {𝓤 : Ura M} (𝓛 : Logic 𝓤) where
   returns j (mutable X ∷ ps) s ns ws =
       returned_before (suc j) ps s.1 (slice_item X 𝓤 s.0 ws.0) (ns.0.0 ∷ []) full_share (slice_last X s.0 ns.0 ws.0) (slice_kept X s.0 ns.0) (length ws.0 ≡ length s.0.0) (all_return X s.0 ns.0 ws.0) (returns (suc j) ps s.1) ns.1 ws.1
   returns j (single X ∷ ps) s ns ws =
-      returned_before (suc j) ps s.1 (value_item X 𝓤 s.0 ws.0) (ns.0.0 ∷ []) full_share (fres ns.0.1 (X.row.coded.code ws.0)) (value_kept X s.0 ns.0) (Unit {0}) (value_returns X s.0 ns.0 ws.0) (returns (suc j) ps s.1) ns.1 ws.1
+      returned_before (suc j) ps s.1 (value_item X 𝓤 s.0 ws.0) (ns.0.0 ∷ []) full_share (value_last X s.0 ns.0 ws.0) (value_kept X s.0 ns.0) (Unit {0}) (value_returns X s.0 ns.0 ws.0) (returns (suc j) ps s.1) ns.1 ws.1
 
   -- what is required holds of nothing
   asked : {Y : Type 0} (φ : Option (Y → Type 0)) (y : Y) → Asks φ y → emp 𝓤 ⊢ asks 𝓤 φ y
@@ -337,7 +345,7 @@ module _ {M : Type 1} {𝓤 : Ura M} {𝓛 : Logic 𝓤} {K : Type 0} {Γ : List
         (λ us. via 𝓤 (sep 𝓤 (mean 𝓛 i) (wand 𝓤 (mean 𝓛 i) (Kt us))) (comm∗ 𝓤 (wand 𝓤 (mean 𝓛 i) (Kt us)) (mean 𝓛 i)) (apply∗ 𝓤 (mean 𝓛 i) (Kt us))));
   }
 
-module _ {M : Type 1} {𝓤 : Ura M} {𝓛 : Logic 𝓤} {K : Type 0} {Γ : List (Item 𝓤)} {E : Env 𝓤 𝓛.H} {C : Calls 𝓤 𝓛.H} {Λ : Loops 𝓤 𝓛.H} {q : Post 𝓤 𝓛.H} {f : Name} {xs : List Operand} {p : Place} {rest : Body} where
+module _ {M : Type 1} {𝓤 : Ura M} {𝓛 : Logic 𝓤} {K : Type 0} {Γ : List (Item 𝓤)} {E : Env 𝓤 𝓛.H} {C : Calls 𝓤 𝓛.H} {Λ : Loops 𝓤 𝓛.H} {q : Post 𝓤 𝓛.H} {f : Callee} {xs : List Operand} {p : Place} {rest : Body} where
   open 𝓛 use {H}
 
   pub calls : (c : Terms) → K → FmC 𝓤 H 𝓛.laws C → Triple 𝓤 (C f) (triple 𝓛 c) → (s : Args c.params) → Asks c.requires (values c.params s) → Opds K 𝓛 Γ E xs (machine c.params s)

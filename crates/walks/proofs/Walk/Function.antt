@@ -5,7 +5,7 @@
 --     leaves           how a walk ends: what was opened, at its last values, is closed, and the contract's postcondition holds
 --     walked           the triple, from a walk from `Entry` with `Handed` and what is required in hand
 -- Assumes `Logic`.
-use mathlib.Core.Path.{◌≡◌, sym, subst}
+use mathlib.Core.Path.{◌≡◌, refl, sym, subst}
 use mathlib.Core.Option.{Option, none, some as asking}
 use Prim.Native.Nat.{ℕ, suc}
 use mathlib.Core.List.{List, [], ◌∷◌, ◌++◌}
@@ -15,17 +15,18 @@ use base.Fraction.{full_share}
 use mir.Syntax.{named}
 use mir.Val.{Val}
 use base.Logic.{SProp, ent, sep, emp, id⊢, via, fst∗, snd∗}
-use base.Fml.{Lft, Share, Fml, ftrue, fsep, feq, flft, fobs, fauth, fres, fobor}
+use base.Fml.{Lft, Share, Fml, ftrue, fsep, flft, fobs, fauth, fbor, fobor}
 use types.Logic.{Logic, sem}
 use contract.Monad.{Fun, fact, fact_use}
 use contract.Lifetimes.{Lfts, Shares, toks}
-use types.Kit.{Item, Step, Goal, Soaks, step, ⋆, ++⊢, ⊢++, ‵, raw, later, ◌⊛◌, ◌$◌, ◌∵◌, !, qed, by, cut, move, keep, drop, use1, use2, split, join, fsplit, fsplit3, fjoin, feq_i, show, frame, await, updating, now as at_once, done}
+use types.Kit.{Item, Step, Goal, Soaks, step, ⋆, ++⊢, ⊢++, ‵, raw, later, ◌⊛◌, ◌$◌, ◌∵◌, !, qed, by, cut, move, drop, use1, use2, split, join, rewrite, fsplit, fsplit3, fjoin, feq_i, show, frame, await, updating, now as at_once, done}
 use types.Mut.{open_ref, close_ref}
+use types.Tokens.{name_done}
 use types.SemTy.{Body as Borrowed}
 use denote.RattleType.{RattleType, Denots, Valss, flat, owns}
 use denote.Laws.{Is, Ises, Are, Tellss, all_tell, owns_show, showss}
 use denote.Memory.{mem, part_at}
-use denote.Ref.{Bor, MutBor, MutRef, shr_vals, mut_vals, mut_Tells}
+use denote.Ref.{Bor, MutBor, MutRef, mut_vals, mut_Tells}
 use denote.Slice.{ShrSlice, MutSlice, shr_slice_vals, mut_slice_vals, finally, res-finally, coded_holeys, heres, shr_slice_Tells, mut_slice_Tells}
 use denote.Lend.{Held}
 use denote.Index.{row as records, opens_slice, closes_slice}
@@ -33,7 +34,7 @@ use denote.Steps.{nothing, owned as made}
 use denote.Triple.Statement.{Triple}
 use denote.Triple.Walked.{says, needs}
 use Rattle.walks.proofs.Walk.Values.{Value, Of, Fits, makes}
-use Rattle.walks.proofs.Walk.Terms.{Param, plain, shared, mutable, single, Passed, Left, Sized, Terms, Asks, refs, rows, spells, machine_values, passed, lasts, asks, Back, triple}
+use Rattle.walks.proofs.Walk.Terms.{Param, plain, shared, mutable, single, Passed, Left, Sized, Terms, Asks, refs, rows, spells, machine_values, passed, slice_left, value_left, lasts, asks, Back, triple}
 
 -- ---- the parameters' types tell their machine values
 tell : (j : ℕ) (ps : List Param) (κs : Lfts (refs ps)) → Tellss (rows j ps κs) (Ises (rows j ps κs)) (spells j ps κs)
@@ -67,10 +68,10 @@ module _ (X : Value) (κ : Lft) (q : Share) where
     abbrev shown_items : Bor (List (Of X)) → List (Item 𝓤)
     shown_items x = ‵ (flft κ q) ∷ ‵ ((ShrSlice (named 0) κ X.row).own_val x (shr_slice_vals x)) ∷ []
 
-    abbrev slice_items : Bor (List (Of X)) → List (Of X) → List (Item 𝓤)
+    abbrev slice_items : MutBor (List (Of X)) → List (Of X) → List (Item 𝓤)
     slice_items x zs = ‵ (records X.row full_share zs x.ref_ptr.0 x.ref_ptr.1) ∷ ‵ (slice_open x) ∷ []
 
-    abbrev value_items : Bor (Of X) → Of X → List (Item 𝓤)
+    abbrev value_items : MutBor (Of X) → Of X → List (Item 𝓤)
     value_items x z = ‵ (part_at X.row full_share z x.ref_ptr.0 x.ref_ptr.1) ∷ ‵ (value_open x) ∷ []
 
 module _ {M : Type 1} (𝓤 : Ura M) where
@@ -102,21 +103,22 @@ module _ {M : Type 1} {𝓤 : Ura M} (𝓛 : Logic 𝓤) where
         qed 𝓛 (‵ (flft κ q) ∷ ‵ ((MutSlice (named 0) κ X.row).own_val x (mut_slice_vals x)) ∷ []) ∵ updating ! $ move ! (1 ∷ []) $ fsplit ! $ drop ! $ fsplit ! $
         opens_slice ! tt X.row x.now x.ref_ptr.0 x.ref_ptr.1 $ at_once ! $ frame ! $ move ! (1 ∷ 2 ∷ 0 ∷ []) $ fjoin ! $ move ! (1 ∷ 0 ∷ []) $ fjoin ! $ done !
 
-    closes_slice_of : (x : MutBor (List (Of X))) (zs : List (Of X)) → length zs ≡ length x.now → ⋆ 𝓛 (slice_items X κ q 𝓤 x zs) ⊢ H.⇛ (A.lft κ q ∗ ⟦ fsep (finally X.row (name x) zs) (feq ℕ (length zs) (length (now x))) ⟧)
+    closes_slice_of : (x : MutBor (List (Of X))) (zs : List (Of X)) → length zs ≡ length x.now → ⋆ 𝓛 (slice_items X κ q 𝓤 x zs) ⊢ H.⇛ (A.lft κ q ∗ ⟦ slice_left X κ x zs ⟧)
     closes_slice_of x zs e =
         qed 𝓛 (slice_items X κ q 𝓤 x zs) ∵ updating ! $ move ! (1 ∷ []) $ fsplit3 ! $ move ! (3 ∷ []) $ closes_slice ! tt X.row x.now zs e x.ref_ptr.0 x.ref_ptr.1 $
-        use1 𝓛 (‵ (fres x.ghost_name ((coded_holeys X.row).code (heres X.row zs)))) (𝓛.names.obs-res x.ghost_name ((coded_holeys X.row).code (heres X.row zs))) $
-        use1 𝓛 (‵ (finally X.row x.ghost_name zs)) (res-finally 𝓛 (named 0) κ X.row x.ghost_name zs) $ at_once ! $ keep ! (2 ∷ 0 ∷ []) $ frame ! $ feq_i ! ℕ (length zs) (length x.now) e $ move ! (1 ∷ 0 ∷ []) $ done !
+        -- [what the name observes; the borrow, at as many elements as zs has; the token]
+        rewrite ! 1 (λ (n : ℕ). ‵ (fbor κ (Held X.row n x.ref_ptr.0 x.ref_ptr.1 x.ghost_name))) e refl $ name_done ! tt $ use1 𝓛 (‵ (finally X.row x.ghost_name zs)) (res-finally 𝓛 (named 0) κ X.row x.ghost_name zs) $
+        at_once ! $ move ! (2 ∷ []) $ frame ! $ feq_i ! ℕ (length zs) (length x.now) e $ move ! (1 ∷ 0 ∷ []) $ fjoin ! $ done !
 
     opens_value_of : (x : MutBor (Of X)) → A.lft κ q ∗ ⟦ (MutRef (named 0) κ X.row).own_val x (mut_vals x) ⟧ ⊢ H.⇛ (⋆ 𝓛 (value_items X κ q 𝓤 x x.now))
     opens_value_of x =
         qed 𝓛 (‵ (flft κ q) ∷ ‵ ((MutRef (named 0) κ X.row).own_val x (mut_vals x)) ∷ []) ∵ updating ! $ move ! (1 ∷ []) $ fsplit ! $ drop ! $ fsplit ! $
         open_ref ! tt (mem X.row) {b = x.ref_ptr.0} {o = x.ref_ptr.1} $ at_once ! $ frame ! $ move ! (1 ∷ 2 ∷ 0 ∷ []) $ fjoin ! $ move ! (1 ∷ 0 ∷ []) $ fjoin ! $ done !
 
-    closes_value_of : (x : MutBor (Of X)) (z : Of X) → ⋆ 𝓛 (value_items X κ q 𝓤 x z) ⊢ H.⇛ (A.lft κ q ∗ ⟦ fres (name x) (X.row.coded.code z) ⟧)
+    closes_value_of : (x : MutBor (Of X)) (z : Of X) → ⋆ 𝓛 (value_items X κ q 𝓤 x z) ⊢ H.⇛ (A.lft κ q ∗ ⟦ value_left X κ x z ⟧)
     closes_value_of x z =
         qed 𝓛 (value_items X κ q 𝓤 x z) ∵ updating ! $ move ! (1 ∷ []) $ fsplit3 ! $ move ! (3 ∷ []) $ close_ref ! tt (mem X.row) z {b = x.ref_ptr.0} {o = x.ref_ptr.1} $
-        use1 𝓛 (‵ (fres x.ghost_name (X.row.coded.code z))) (𝓛.names.obs-res x.ghost_name (X.row.coded.code z)) $ at_once ! $ keep ! (2 ∷ 0 ∷ []) $ done !
+        name_done ! tt $ at_once ! $ move ! (2 ∷ []) $ done !
 
   -- ---- all of them, one after the other
   module _ (j : ℕ) (ps : List Param) (κs : Lfts (refs ps)) (qs : Shares (refs ps)) (a : Denots (rows j ps κs)) where
@@ -147,9 +149,9 @@ module _ {M : Type 1} {𝓤 : Ura M} (𝓛 : Logic 𝓤) where
   all_open j (shared X ∷ ps) κs qs a =
       opened_before (suc j) ps κs.1 qs.1 a.1 κs.0 qs.0 ((ShrSlice (named 0) κs.0 X.row).own_val a.0 (shr_slice_vals a.0)) (shown_items X κs.0 qs.0 𝓤 a.0) (𝓛.laws.⇛_intro _) (all_open (suc j) ps κs.1 qs.1 a.1)
   all_open j (mutable X ∷ ps) κs qs a =
-      opened_before (suc j) ps κs.1 qs.1 a.1 κs.0 qs.0 ((MutSlice (named 0) κs.0 X.row).own_val a.0 (shr_slice_vals a.0)) (slice_items X κs.0 qs.0 𝓤 a.0 a.0.now) (opens_slice_of X κs.0 qs.0 a.0) (all_open (suc j) ps κs.1 qs.1 a.1)
+      opened_before (suc j) ps κs.1 qs.1 a.1 κs.0 qs.0 ((MutSlice (named 0) κs.0 X.row).own_val a.0 (mut_slice_vals a.0)) (slice_items X κs.0 qs.0 𝓤 a.0 a.0.now) (opens_slice_of X κs.0 qs.0 a.0) (all_open (suc j) ps κs.1 qs.1 a.1)
   all_open j (single X ∷ ps) κs qs a =
-      opened_before (suc j) ps κs.1 qs.1 a.1 κs.0 qs.0 ((MutRef (named 0) κs.0 X.row).own_val a.0 (shr_vals a.0)) (value_items X κs.0 qs.0 𝓤 a.0 a.0.now) (opens_value_of X κs.0 qs.0 a.0) (all_open (suc j) ps κs.1 qs.1 a.1)
+      opened_before (suc j) ps κs.1 qs.1 a.1 κs.0 qs.0 ((MutRef (named 0) κs.0 X.row).own_val a.0 (mut_vals a.0)) (value_items X κs.0 qs.0 𝓤 a.0 a.0.now) (opens_value_of X κs.0 qs.0 a.0) (all_open (suc j) ps κs.1 qs.1 a.1)
 
   all_close : (j : ℕ) (ps : List Param) (κs : Lfts (refs ps)) (qs : Shares (refs ps)) (a : Denots (rows j ps κs)) → AllClose j ps κs qs a
   all_close j [] κs qs a ws k = qed 𝓛 [] ∵ updating ! $ at_once ! $ nothing ! $ nothing ! $ done !
@@ -159,10 +161,10 @@ module _ {M : Type 1} {𝓤 : Ura M} (𝓛 : Logic 𝓤) where
   all_close j (shared X ∷ ps) κs qs a ws k =
       closed_before (suc j) ps κs.1 qs.1 a.1 κs.0 qs.0 ftrue (shown_items X κs.0 qs.0 𝓤 a.0) (qed 𝓛 (shown_items X κs.0 qs.0 𝓤 a.0) ∵ updating ! $ at_once ! $ frame ! $ drop ! $ nothing ! $ done !) (all_close (suc j) ps κs.1 qs.1 a.1) ws.1 k.1
   all_close j (mutable X ∷ ps) κs qs a ws k =
-      closed_before (suc j) ps κs.1 qs.1 a.1 κs.0 qs.0 (fsep (finally X.row a.0.ghost_name ws.0) (feq ℕ (length ws.0) (length a.0.now))) (slice_items X κs.0 qs.0 𝓤 a.0 ws.0) (closes_slice_of X κs.0 qs.0 a.0 ws.0 k.0)
+      closed_before (suc j) ps κs.1 qs.1 a.1 κs.0 qs.0 (slice_left X κs.0 a.0 ws.0) (slice_items X κs.0 qs.0 𝓤 a.0 ws.0) (closes_slice_of X κs.0 qs.0 a.0 ws.0 k.0)
       (all_close (suc j) ps κs.1 qs.1 a.1) ws.1 k.1
   all_close j (single X ∷ ps) κs qs a ws k =
-      closed_before (suc j) ps κs.1 qs.1 a.1 κs.0 qs.0 (fres a.0.ghost_name (X.row.coded.code ws.0)) (value_items X κs.0 qs.0 𝓤 a.0 ws.0) (closes_value_of X κs.0 qs.0 a.0 ws.0)
+      closed_before (suc j) ps κs.1 qs.1 a.1 κs.0 qs.0 (value_left X κs.0 a.0 ws.0) (value_items X κs.0 qs.0 𝓤 a.0 ws.0) (closes_value_of X κs.0 qs.0 a.0 ws.0)
       (all_close (suc j) ps κs.1 qs.1 a.1) ws.1 k.1
 
 -- ---- a function

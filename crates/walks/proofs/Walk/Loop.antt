@@ -22,26 +22,29 @@ pub tests : (z : Bool) → (z ≡ true) ⊎ (z ≡ false)
 tests true = inl refl
 tests false = inr refl
 
-module _ {M : Type 1} {𝓤 : Ura M} {𝓛 : Logic 𝓤} where
+module _ {M : Type 1} {𝓤 : Ura M} (𝓛 : Logic 𝓤) where
   -- what a turn b is to reach: a smaller t, or the end of the loop and then `rest`
   open 𝓛 use {H}
 
   abbrev pub turns : {X : Type 0} → Tables 𝓤 H → (X → X → Type 0) → (X → List (Item 𝓤)) → Env 𝓤 H → (b rest : Body) → Post 𝓤 H → X → Goal 𝓤 H
   turns 𝓣 ≺ I E b rest q t = runs 𝓣.C 𝓣.Λ E b (any_q (after_turn 𝓤 H (Below 𝓛 ≺ I t) (after_block 𝓤 H (after_seq 𝓤 H (Wp 𝓤 H 𝓣.C 𝓣.Λ E rest (post 𝓤 H q)) (post 𝓤 H q)))))
 
-module _ {M : Type 1} {𝓤 : Ura M} {𝓛 : Logic 𝓤} where
+module _ {M : Type 1} {𝓤 : Ura M} (𝓛 : Logic 𝓤) where
   open 𝓛 use {H}
 
   unfoldable pub Turn : (K : Type 0) {X : Type 0} → Tables 𝓤 H → (X → X → Type 0) → (X → List (Item 𝓤)) → Env 𝓤 H → (b rest : Body) → Post 𝓤 H → X → Type 1
-  Turn K 𝓣 ≺ I E b rest q t = Seq K 𝓛 (I t) (turns {𝓛 = 𝓛} 𝓣 ≺ I E b rest q t)
+  Turn K 𝓣 ≺ I E b rest q t = Seq K 𝓛 (I t) (turns 𝓛 𝓣 ≺ I E b rest q t)
+
+module _ {M : Type 1} {𝓤 : Ura M} {𝓛 : Logic 𝓤} where
+  open 𝓛 use {H}
 
   module _ {K : Type 0} {X : Type 0} where
     pub loop_then : K → (𝓣 : Tables 𝓤 H) (≺ : X → X → Type 0) → WellFounded ≺ → (I : X → List (Item 𝓤)) {E : Env 𝓤 H} {b rest : Body} {q : Post 𝓤 H}
-        → ((t : X) → Turn K 𝓣 ≺ I E b rest q t) → (t : X) → Seq K 𝓛 (I t) (runs 𝓣.C 𝓣.Λ E (seq (block (loop b)) rest) q)
+        → ((t : X) → Turn 𝓛 K 𝓣 ≺ I E b rest q t) → (t : X) → Seq K 𝓛 (I t) (runs 𝓣.C 𝓣.Λ E (seq (block (loop b)) rest) q)
     unfolding Turn
     loop_then k 𝓣 ≺ wf I turn t = first k $ blocks k $ loops k 𝓣 ≺ wf I turn t
 
-    pub turn_of : (𝓣 : Tables 𝓤 H) (≺ : X → X → Type 0) (I : X → List (Item 𝓤)) (E : Env 𝓤 H) (b rest : Body) (q : Post 𝓤 H) (t : X) → Seq K 𝓛 (I t) (turns {𝓛 = 𝓛} 𝓣 ≺ I E b rest q t) → Turn K 𝓣 ≺ I E b rest q t
+    pub turn_of : (𝓣 : Tables 𝓤 H) (≺ : X → X → Type 0) (I : X → List (Item 𝓤)) (E : Env 𝓤 H) (b rest : Body) (q : Post 𝓤 H) (t : X) → Seq K 𝓛 (I t) (turns 𝓛 𝓣 ≺ I E b rest q t) → Turn 𝓛 K 𝓣 ≺ I E b rest q t
     unfolding Turn
     turn_of 𝓣 ≺ I E b rest q t s = s
 

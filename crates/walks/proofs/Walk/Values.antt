@@ -6,16 +6,21 @@
 use Prim.Native.Nat.{ℕ}
 use mathlib.Core.List.{List, [], ◌∷◌, map}
 use seplogic.Ra.Ura.{Ura}
-use mir.Syntax.{Width, Ty}
+use mir.Syntax.{Width, Ty, named}
 use mir.Val.{Val, vint, vbool, vunit}
-use types.Logic.{Logic}
-use types.Kit.{‵, ◌$◌, ◌∵◌, !, qed, frame, done}
+use base.Logic.{ent, sep}
+use base.Fml.{Lft}
+use types.Logic.{Logic, sem}
+use types.Kit.{‵, ◌$◌, ◌∵◌, !, qed, fsplit, fjoin, frame, done}
 use denote.RattleType.{RattleType}
 use denote.Shadow.{Pure, makes_shadow, pure_l, pure_i}
 use denote.Laws.{Is, Tells, Makes, Lawful, Copy}
 use denote.Memory.{pointee}
 use denote.ArrayMemory.{Single}
-use denote.Copied.{Copied, uint_Copied, bool_Copied, Nothing-Copied, Array-Copied}
+use denote.Bor.{Bor}
+use denote.Slice.{ShrSlice, shr_slice_vals, shr_slice_at, elements_shared}
+use denote.Opens.{twice_dup}
+use denote.Copied.{Copied, each_Twice, uint_Copied, bool_Copied, Nothing-Copied, Array-Copied}
 use denote.Plain.{UInt, Boolean, Nothing, uint_Tells, uint_Lawful, bool_Tells, bool_Lawful, Nothing-Tells, Nothing-Lawful}
 use denote.Array.{Array, each, array_val, Array-Tells, Array-Lawful}
 use denote.Struct.Struct.{Plains, layout, Struct-Pure}
@@ -146,3 +151,9 @@ module _ {M : Type 1} {𝓤 : Ura M} (𝓛 : Logic 𝓤) (X : Value) where
   -- so it can be had twice
   pub copy : Copy 𝓛 X.row
   copy = record { twice = λ x vs. qed 𝓛 (‵ (X.row.own_val x vs) ∷ []) ∵ pure_l ! (X.row.own_val x vs) (λ p. pure_i ! (X.row.own_val x vs) (X.pure x vs) p $ frame ! $ pure_i ! (X.row.own_val x vs) (X.pure x vs) p $ done !) }
+
+  -- and so can a `&[T]` of them
+  pub shown_twice : (κ : Lft) (x : Bor (List (Of X))) → ent 𝓤 (sem 𝓛 ((ShrSlice (named 0) κ X.row).own_val x (shr_slice_vals x))) (sep 𝓤 (sem 𝓛 ((ShrSlice (named 0) κ X.row).own_val x (shr_slice_vals x))) (sem 𝓛 ((ShrSlice (named 0) κ X.row).own_val x (shr_slice_vals x))))
+  shown_twice κ x = qed 𝓛 (‵ ((ShrSlice (named 0) κ X.row).own_val x (shr_slice_vals x)) ∷ []) ∵ fsplit ! $ pure_l ! (shr_slice_at X.row x (shr_slice_vals x)) (λ p.
+      twice_dup ! (elements_shared X.row x.now x.ref_ptr.0 x.ref_ptr.1) (each_Twice 𝓛 X.row (X.copied 𝓛) x.now x.ref_ptr.0 x.ref_ptr.1) κ $
+      pure_i ! (shr_slice_at X.row x (shr_slice_vals x)) (tt, (tt, tt)) p $ fjoin ! $ frame ! $ pure_i ! (shr_slice_at X.row x (shr_slice_vals x)) (tt, (tt, tt)) p $ fjoin ! $ done !)
