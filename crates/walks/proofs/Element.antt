@@ -25,7 +25,7 @@ use types.Kit.{Item, Seq, Step, step, Post, runs, nth, put, ‵, ◌⊛◌, ◌$
 use types.Run.{look, look_raw, init, store_raw, stop, hop, from, load, lit, unit_lit, of_opd, bin, assigns}
 use denote.RattleType.{RattleType}
 use denote.Laws.{Is, shows}
-use denote.Ref.{Bor}
+use denote.Ref.{Bor, MutBor}
 use denote.Slice.{slice_ty, shr_slice_vals, ShrSlice, Room}
 use denote.Index.{row as records, place as place_of, place_is, elem_out, elem_back, elem_put, looks_slice, shuts_slice}
 use denote.Steps.{owned as made}
@@ -90,7 +90,7 @@ module _ {M : Type 1} {𝓤 : Ura M} {𝓛 : Logic 𝓤} {K : Type 0} {Γ : List
       → Seq K 𝓛 (‵ (flft κ q) ∷ reference 𝓤 S κ xs ∷ Γ) (runs C Λ E (seq (assign (place d []) (rv_opd (copy (place p (deref (by_value S) ∷ []))))) rest) o)
   reads t S κ q xs i none l m n at_p at-d ty k =
       -- a copy of the reference is looked into
-      move t (1 ∷ []) $ use1 𝓛 (reference 𝓤 S κ xs ⊛ reference 𝓤 S κ xs) (shown_twice 𝓛 (struct S) κ xs) $ split t $ fsplit t $ drop t $ fsplit t $ drop t $ move t (0 ∷ 2 ∷ []) $
+      move t (1 ∷ []) $ use1 𝓛 (reference 𝓤 S κ xs ⊛ reference 𝓤 S κ xs) (shown_twice 𝓛 (struct S) κ xs) $ split t $ fsplit t $ drop t $ move t (0 ∷ 2 ∷ []) $
       looks_slice t tt R ((struct S).copied 𝓛) xs.now xs.ref_ptr.0 xs.ref_ptr.1 (λ q'.
       -- [the records; what shuts; the fractured borrow; the reference; …]
       takes t S q' xs.now xs.ref_ptr.0 xs.ref_ptr.1 i none l (suc (suc (suc m))) (suc (suc (suc n))) at_p at-d ty (λ is. shuts_slice t tt R q' xs.now xs.ref_ptr.0 xs.ref_ptr.1 $ move t (1 ∷ []) $ drop t $ k is))
@@ -154,22 +154,26 @@ module _ (S : Struct) (none : Of (struct S)) where
     open 𝓛 use {H}
 
     module _ (κ : Lft) (q : Share) (xs : Bor (List D)) (i : ℕ) (room : Room (struct S).row (length xs.now)) (l : i < length xs.now) where
-      bytes : i * size ty < 2 ^ 64
-      bytes = bytes_fit i (length xs.now) (size ty) l room.1
+      get_bytes : i * size ty < 2 ^ 64
+      get_bytes = bytes_fit i (length xs.now) (size ty) l room.1
 
       get_walk : (bs : Blocks get_mir.locals) → Walk 𝓛 get_terms get_mir C Λ (κ, tt) (q, tt) (xs, (i, tt)) bs
       get_walk bs =
           -- [the token; the reference; _0; …; _5]
-          sets ! 5 refl (bin ! (at ! 4 refl) (lit ! small) (record { fits = bytes })) (tt, record { fits = bytes }) $ sets ! 6 refl (bin ! (pointer ! 3 refl refl) (at ! 5 refl) tt) (tt, tt) $
+          sets ! 5 refl (bin ! (at ! 4 refl) (lit ! small) (record { fits = get_bytes })) (tt, record { fits = get_bytes }) $ sets ! 6 refl (bin ! (pointer ! 3 refl refl) (at ! 5 refl) tt) (tt, tt) $
           reads_as ! 6 refl (ap (vptr xs.ref_ptr.0) (sym (place_is (size ty) xs.ref_ptr.1 i))) $ reads ! S κ q xs i none l 4 5 refl refl refl (λ is.
           sets ! 2 refl (of_opd ! (at ! 7 refl)) (((struct S).lawful 𝓛).typed (get_or xs.now i none) _ is).0 $
           ends get_terms (κ, tt) (q, tt) (xs, (i, tt)) (some _ ∷ some _ ∷ some _ ∷ some _ ∷ some _ ∷ []) (get_or xs.now i none) (tt, (tt, tt)) ! is (tt, (tt, tt)) refl)
+
+    module _ (κ : Lft) (q : Share) (xs : MutBor (List D)) (i : ℕ) (room : Room (struct S).row (length xs.now)) (l : i < length xs.now) where
+      put_bytes : i * size ty < 2 ^ 64
+      put_bytes = bytes_fit i (length xs.now) (size ty) l room.1
 
       module _ (x : D) (is : Fits (struct S) x) where
         put_walk : (bs : Blocks put_mir.locals) → Walk 𝓛 put_terms put_mir C Λ (κ, tt) (q, tt) (xs, (i, (x, tt))) bs
         put_walk bs =
             -- [the elements; the open borrow; _0; …; _5]
-            sets ! 6 refl (bin ! (at ! 4 refl) (lit ! small) (record { fits = bytes })) (tt, record { fits = bytes }) $ sets ! 7 refl (bin ! (pointer ! 3 refl refl) (at ! 6 refl) tt) (tt, tt) $
+            sets ! 6 refl (bin ! (at ! 4 refl) (lit ! small) (record { fits = put_bytes })) (tt, record { fits = put_bytes }) $ sets ! 7 refl (bin ! (pointer ! 3 refl refl) (at ! 6 refl) tt) (tt, tt) $
             reads_as ! 7 refl (ap (vptr xs.ref_ptr.0) (sym (place_is (size ty) xs.ref_ptr.1 i))) $ writes ! S xs.now xs.ref_ptr.0 xs.ref_ptr.1 i x none is l 6 4 refl refl $
             sets ! 2 refl (of_opd ! (unit_lit !)) (tt, tt) $
             ends put_terms (κ, tt) (q, tt) (xs, (i, (x, tt))) (some _ ∷ some _ ∷ some _ ∷ some _ ∷ some _ ∷ []) tt (set xs.now i x, (tt, (tt, tt))) ! refl (length-set xs.now i x, (tt, (tt, tt))) refl

@@ -19,7 +19,7 @@ use prog.Wp.{Env, Calls, Loops, eval_opds}
 use types.Logic.{Logic, sem}
 use contract.Monad.{fact, fact_i}
 use contract.Lifetimes.{Lfts, Shares, toks}
-use types.Kit.{Item, Seq, Post, runs, lands, mean, ⋆, pop, push, ++⊢, ⊢++, ‵, raw, some, given, later, ◌⊛◌, ◌$◌, ◌∵◌, !, qed, by, cut, move, drop, use0, use1, use3, split, split3, join, pick, learn, fsplit, feq_i, fjoin, feq_l, show, check, frame, await, updating, now as at_once, done}
+use types.Kit.{Item, Seq, Post, runs, lands, mean, ⋆, pop, push, ++⊢, ⊢++, ‵, raw, some, given, later, ◌⊛◌, ◌$◌, ◌∵◌, !, qed, by, cut, move, drop, use0, use1, use3, split, split3, join, pick, learn, fsplit, fjoin, feq_l, show, check, frame, await, updating, now as at_once, done}
 use types.Run.{Opds}
 use types.SemTy.{cells, Arr, Body as Borrowed}
 use types.Tokens.{lft_new, lft_end, lent_back}
@@ -97,7 +97,7 @@ machine (shared X ∷ ps) s = slice_val (place_of X s.0) (length (elements X s.0
 machine (mutable X ∷ ps) s = slice_val s.0.1 (length s.0.0) ∷ machine ps s.1
 machine (single X ∷ ps) s = vptr s.0.1.0 s.0.1.1 ∷ machine ps s.1
 
--- ---- what the callee is handed: for each reference a lifetime and a name
+-- ---- what the callee is handed: for each reference a lifetime and a name. A `&[T]` has no name, and there it says nothing
 abbrev Names : List Param → Type 0
 Names [] = Unit {0}
 Names (plain X ∷ ps) = Names ps

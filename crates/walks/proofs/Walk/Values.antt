@@ -8,7 +8,7 @@ use mathlib.Core.List.{List, [], ◌∷◌, map}
 use seplogic.Ra.Ura.{Ura}
 use mir.Syntax.{Width, Ty, named}
 use mir.Val.{Val, vint, vbool, vunit}
-use base.Logic.{ent, sep}
+use base.Logic.{SProp, ent, sep}
 use base.Fml.{Lft}
 use types.Logic.{Logic, sem}
 use types.Kit.{‵, ◌$◌, ◌∵◌, !, qed, fsplit, fjoin, frame, done}
@@ -153,7 +153,10 @@ module _ {M : Type 1} {𝓤 : Ura M} (𝓛 : Logic 𝓤) (X : Value) where
   copy = record { twice = λ x vs. qed 𝓛 (‵ (X.row.own_val x vs) ∷ []) ∵ pure_l ! (X.row.own_val x vs) (λ p. pure_i ! (X.row.own_val x vs) (X.pure x vs) p $ frame ! $ pure_i ! (X.row.own_val x vs) (X.pure x vs) p $ done !) }
 
   -- and so can a `&[T]` of them
-  pub shown_twice : (κ : Lft) (x : Bor (List (Of X))) → ent 𝓤 (sem 𝓛 ((ShrSlice (named 0) κ X.row).own_val x (shr_slice_vals x))) (sep 𝓤 (sem 𝓛 ((ShrSlice (named 0) κ X.row).own_val x (shr_slice_vals x))) (sem 𝓛 ((ShrSlice (named 0) κ X.row).own_val x (shr_slice_vals x))))
+  abbrev shown : Lft → Bor (List (Of X)) → SProp 𝓤
+  shown κ x = sem 𝓛 ((ShrSlice (named 0) κ X.row).own_val x (shr_slice_vals x))
+
+  pub shown_twice : (κ : Lft) (x : Bor (List (Of X))) → ent 𝓤 (shown κ x) (sep 𝓤 (shown κ x) (shown κ x))
   shown_twice κ x = qed 𝓛 (‵ ((ShrSlice (named 0) κ X.row).own_val x (shr_slice_vals x)) ∷ []) ∵ fsplit ! $ pure_l ! (shr_slice_at X.row x (shr_slice_vals x)) (λ p.
       twice_dup ! (elements_shared X.row x.now x.ref_ptr.0 x.ref_ptr.1) (each_Twice 𝓛 X.row (X.copied 𝓛) x.now x.ref_ptr.0 x.ref_ptr.1) κ $
       pure_i ! (shr_slice_at X.row x (shr_slice_vals x)) (tt, (tt, tt)) p $ fjoin ! $ frame ! $ pure_i ! (shr_slice_at X.row x (shr_slice_vals x)) (tt, (tt, tt)) p $ fjoin ! $ done !)
