@@ -7,7 +7,7 @@ use Rattle.record.specs.declared.Step.{Step}
 use Rattle.record.specs.declared.Step.TheVariants.{Requirement, Margin, Accept, Withdraw}
 use Rattle.share.specs.Totals as T
 use Rattle.share.specs.Shares.{share_of, floors, spare, claim, next, give_one, give}
-use Rattle.book.specs.Words.{tradeable, tradeable_in, exposed_days, margin_of, pending_in, accepted_in, received_in, total, over_days}
+use Rattle.book.specs.Words.{tradeable_in, exposed_days, margin_of, pending_in, accepted_in, received_in, total, over_days}
 use Rattle.book.specs.Reasons.{reason_of, reason2, reason3, reason4, reason5, reason6, in_range, reason8, reason9, reason10, reason11, reason12, reason13, reason14, reason15, some, change, window_open}
 use Rattle.book.specs.Cut.{cut, recut}
 use Rattle.book.specs.Steps.{book_of, done, written, changed}

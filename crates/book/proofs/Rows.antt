@@ -2,7 +2,7 @@
 -- rewrites keeps its other parts, and the other tables are left alone (`rows`). Assumes nothing.
 use mathlib.Core.Path.{◌≡◌, refl, ap}
 use mathlib.Core.Logic.{◌⊎◌, inl, inr, ⊎_elim}
-use mathlib.Core.Bool.{Bool, true, false, cond, not, ◌&&◌, and-eq-true_iff}
+use mathlib.Core.Bool.{Bool, true, false, cond, ◌&&◌, and-eq-true_iff}
 use mathlib.Core.List.{List, map}
 use Prim.Native.Nat.{ℕ, ◌+◌, ◌-◌, ◌%◌, ◌≤◌, ◌<◌}
 use native.Mathlib.Omega.{arith}
@@ -10,7 +10,6 @@ use lib.Dec.{leb}
 use lib.IntN.{ℤ}
 use lib.ListN.{get_or, length-set}
 use borrow.Author.Tests.{leb-true}
-use Rattle.units.specs.declared.Cents.{Cents}
 use Rattle.units.specs.declared.Minutes.{Minutes}
 use Rattle.units.specs.declared.Thousandths.{Thousandths}
 use Rattle.record.specs.declared.Step.{Step}

@@ -1,6 +1,5 @@
 -- What a record gives on a lent book, and what a run of records from a book gives: the answer to each, and the book after each. Assumes nothing.
 use Rattle.std.specs.Prelude.{Bool, cond, ◌&&◌, List, ℕ, zero, suc, ◌*◌, take, drop}
-use Rattle.record.specs.declared.Step.{Step}
 use Rattle.record.specs.declared.Decoded.{Decoded}
 use Rattle.record.specs.declared.Decoded.TheVariants as D
 use Rattle.record.specs.Record.{decode_of}

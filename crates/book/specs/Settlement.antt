@@ -1,5 +1,5 @@
 -- Document 01, "Settlement": the eight figures of each registered participant, and when settlement is refused. Assumes nothing.
-use Rattle.std.specs.Prelude.{Bool, cond, not, ◌&&◌, List, [], ◌∷◌, ◌++◌, ℕ, zero, suc, ◌+◌, ◌-◌, ◌*◌, ◌/◌, ltb, nat_abs}
+use Rattle.std.specs.Prelude.{Bool, cond, not, ◌&&◌, List, [], ◌∷◌, ◌++◌, ℕ, zero, suc, ◌-◌, ◌*◌, ◌/◌, ltb, nat_abs}
 use Rattle.book.specs.Book.{Book, account, is_open, is_generator, is_registered, participants}
 use Rattle.book.specs.Words.{accepted, received, tradeable, excess, level, over_days}
 use Rattle.book.specs.Sound.{right_lengths, sound}

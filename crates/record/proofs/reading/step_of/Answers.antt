@@ -1,5 +1,5 @@
 -- `reading::step_of` meets its contract: the test of the kind's step answers what the record says. Assumes nothing.
-use Rattle.std.proofs.Common.{◌≡◌, ℕ, sym, ◌∙◌, subst, arith}
+use Rattle.std.proofs.Common.{◌≡◌, subst}
 use Rattle.record.specs.Kinds.{Known, known, unknown}
 use Rattle.record.specs.Record.{made, said_as}
 use Rattle.record.specs.Tested.{made_as, Checked}
