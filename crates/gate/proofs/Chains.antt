@@ -1,7 +1,7 @@
 -- What the chains of several kinds share: reasons 2 and 4, and of a kind that names an allocation also 5 and 6 (`as_named`). Where the number named was
 -- not given, reason 5 comes before the record matters, and where it was, the record is the book's (`named`). Assumes nothing.
 use mathlib.Core.Path.{◌≡◌, ◌∙◌}
-use mathlib.Core.Bool.{false, not, ◌||◌, or-true}
+use mathlib.Core.Bool.{not, ◌||◌, or-true}
 use Prim.Native.Nat.{ℕ}
 use lib.Dec.{eqb, ltb}
 use lib.Signed.{lt_z}
