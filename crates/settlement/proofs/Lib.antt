@@ -2,6 +2,4 @@ pub mod Listed
 pub mod Reasons
 pub mod Books
 pub mod Written
-pub mod Structs
-pub mod Contracts
 pub mod Closing

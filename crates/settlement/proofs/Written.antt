@@ -1,19 +1,18 @@
 -- What is written to a lent room. A place more is the definition at `n + 1`; a room of 32 places, written from a list of 32, has the first n of the list and
--- then its own (`Storer`); and as many as are listed stand in the first places of the list. So a settlement that lists nothing leaves the room as it was.
+-- then its own; and as many as are listed stand in the first places of the list. So a settlement that lists nothing leaves the room as it was.
 -- Assumes nothing.
 use mathlib.Core.Path.{◌≡◌, refl, sym, ap, ◌∙◌}
 use mathlib.Core.Bool.{Bool, true, false, cond}
 use mathlib.Core.List.{List, [], ◌++◌, map}
-use Prim.Native.Nat.{ℕ, zero, suc, ◌+◌, ◌-◌, ◌≤◌}
+use Prim.Native.Nat.{ℕ, zero, suc, ◌+◌, ◌-◌, ◌≤◌, ◌<◌}
 use native.Mathlib.Numerals.{add-one}
 use native.Mathlib.Omega.{arith}
 use lib.Dec.{eqb}
 use lib.ListN.{length, get_or, set, take, drop, replicate, length-append, length-map, length-replicate, length-set}
-use lib.Seq.{take_at}
+use lib.Seq.{take-suc, drop-cons, length-take-le, set_at, append_snoc, take_at}
 use borrow.Author.Tests.{eqb-true}
 use Rattle.book.specs.Book.{Book, participants}
 use Rattle.book.specs.Settlement as book
-use Rattle.walks.proofs.Storer.{stored, stored_suc}
 use Rattle.sound.specs.declared.test.Checked.{Checked}
 use Rattle.sound.specs.Checking.{Checks}
 use Rattle.settlement.specs.declared.figures.Figures.{Figures}
@@ -24,6 +23,16 @@ use Rattle.settlement.specs.Listing.{filled, listing, listed_if, settled_from, r
 use Rattle.settlement.specs.Settling.{reason_with, listed_with, written, Settles}
 use Rattle.settlement.proofs.Listed.{settled_most}
 use Rattle.settlement.proofs.Books.{settlement_is}
+
+-- ---- the first i of a list, and then those of another of its length
+module _ {D : Type 0} (none : D) (t ys : List D) (e : length t ≡ length ys) where
+  abbrev stored : ℕ → List D
+  stored i = take i t ++ drop i ys
+
+  stored_suc : (i : ℕ) → i < length ys → set (stored i) i (get_or t i none) ≡ stored (i + 1)
+  stored_suc i l =
+      ap (λ (us : List D). set (take i t ++ us) i (get_or t i none)) (drop-cons ys i none l) ∙ set_at (take i t) (get_or ys i none) (drop (suc i) ys) (get_or t i none) i (length-take-le i t (omega arith))
+      ∙ sym (append_snoc (take i t) (get_or t i none) (drop (suc i) ys)) ∙ ap (λ (us : List D). us ++ drop (suc i) ys) (sym (take-suc t i none (omega arith))) ∙ ap stored (sym (add-one i))
 
 -- ---- a place more
 module _ (t room : List Figures) where
