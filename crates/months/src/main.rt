@@ -1,8 +1,9 @@
 // Prints each month that stands in a file 01.steps, 02.steps and on, up to the first number that has none.
 #![tactic(auto)]
 
+use std::fs;
+use std::io::Read;
 use std::rt::Files;
-use std::{fs, io};
 
 // Two digits: of no more than 99 months.
 const MOST_MONTHS: u8 = 99;
@@ -18,4 +19,26 @@ fn ones(n: u8) -> u8 {
     b'0' + n % 10
 }
 
-fn main(rt: HostRuntime) {}
+// Prints the month of a number, and answers whether there is one.
+fn print_file(rt: &HostRuntime, n: u8) -> std::io::Result<bool> {
+    let path = format!(in rt.alloc(); "{}{}.steps", char::from(tens(n)), char::from(ones(n)))?;
+    let mut file = match fs::open(rt, &path) {
+        Ok(file) => file,
+        Err(_) => return Ok(false),
+    };
+    let title = [b'm', b'o', b'n', b't', b'h', b' ', tens(n), ones(n), b'\n'];
+    io::write_all(STDOUT_FILENO, &title);
+    let mut month = Vec::new(rt.alloc());
+    file.read_to_end(&mut month)?;
+    printout::print_history(&month);
+    Ok(true)
+}
+
+fn main(rt: HostRuntime) -> std::io::Result<()> {
+    for n in 1..=MOST_MONTHS {
+        if !print_file(&rt, n)? {
+            break;
+        }
+    }
+    Ok(())
+}
