@@ -2,7 +2,7 @@
 #![tactic(auto)]
 
 use std::fs;
-use std::io::Read;
+use std::os::fd::AsRawFd;
 use std::rt::Files;
 
 // Two digits: of no more than 99 months.
@@ -22,15 +22,13 @@ fn ones(n: u8) -> u8 {
 // Prints the month of a number, and answers whether there is one.
 fn print_file(rt: &HostRuntime, n: u8) -> std::io::Result<bool> {
     let path = format!(in rt.alloc(); "{}{}.steps", char::from(tens(n)), char::from(ones(n)))?;
-    let mut file = match fs::open(rt, &path) {
+    let file = match fs::open(rt, &path) {
         Ok(file) => file,
         Err(_) => return Ok(false),
     };
     let title = [b'm', b'o', b'n', b't', b'h', b' ', tens(n), ones(n), b'\n'];
     io::write_all(STDOUT_FILENO, &title);
-    let mut month = Vec::new(rt.alloc());
-    file.read_to_end(&mut month)?;
-    printout::print_history(&month);
+    printout::print_month(file.as_raw_fd());
     Ok(true)
 }
 
