@@ -120,7 +120,7 @@ def main():
             new = re.sub(r"(?<![\w.-])([a-z][\w-]*)-spec(?![\w-])", lambda m: m[1].replace("-", "_") + "_spec", new)
         elif p.endswith(".rt"):
             new = re.sub(r"[A-Z]+-[A-Z]+|[A-Za-z]\w*'?", spelled(camel), old)
-            new = re.sub(r"//[^\n]*|[A-Za-z]\w*(?:-\w+)+'?", spelled(table), new)
+            new = re.sub(r'//[^\n]*|"(?:\\.|[^"\\])*"|[A-Za-z]\w*(?:-\w+)+\'?', spelled(table), new)
             new = re.sub(r"ghost use[^;]*;", lambda m: re.sub(r"[A-Za-z][\w'-]*", spelled(table), m[0]), new)
         elif p.endswith(".edit"):
             new = re.sub(r"[A-Za-z]\w*'?", spelled(camel), old)

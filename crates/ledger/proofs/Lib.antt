@@ -11,9 +11,4 @@ pub mod TradeLate
 pub mod Judgement
 pub mod TradeDone
 pub mod CutDone
-pub mod Records
-pub mod Contracts
-pub mod CutContracts
-pub mod RoomContracts
-pub mod RunContracts
 pub mod Running
