@@ -12,7 +12,6 @@ use lib.ListN.{length, length-map}
 use Rattle.units.specs.declared.Minutes.{Minutes}
 use Rattle.share.specs.Totals.{at, total, largest}
 use Rattle.share.specs.Nearness.{miss, distance, farthest, SharesOut}
-use Rattle.record.specs.declared.Step.{Step}
 use Rattle.record.specs.declared.Step.TheVariants.{OperatorAmends}
 use Rattle.record.specs.declared.Decoded.TheVariants as D
 use Rattle.record.specs.Record.{decode_of}

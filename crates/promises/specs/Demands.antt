@@ -25,7 +25,6 @@ use Rattle.settlement.proofs.settle.Statement as settle
 use Rattle.record.proofs.decode.Statement as decode
 use Rattle.record.proofs.encode.Statement as encode
 use Rattle.ledger.specs.Running.{records_in}
-use Rattle.audit.specs.declared.origin.Put.{Put}
 use Rattle.audit.specs.declared.origin.Followed.{Followed}
 use Rattle.audit.specs.Following.{no_put, Follows}
 use Rattle.audit.proofs.Following.{Answered}
