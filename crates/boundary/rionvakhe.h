@@ -1,6 +1,7 @@
 /*
  * rionvakhe.h - the proved core of the desk for Capacity Credit Allocations,
- * for programs in C: libboundary.a (rt staticlib boundary).
+ * for programs in C: libboundary.a, which is what `rt lib` makes in
+ * crates/boundary_c, out/libboundary_c.a, under that name.
  *
  * The library keeps nothing between calls: no book, no allocation, no party,
  * no screen. A call lends it a book, with a record, a history or a room for

@@ -1,6 +1,7 @@
-// The core for programs in C, which `rionvakhe.h` declares. A call lends a book as numbers, with a
-// record, a history or a room for figures, and gets the answer; nothing is kept between calls. No
-// function here has a `requires`: whatever the lengths and contents, they are answered.
+// The core for programs in C, which `boundary_c` exports and `rionvakhe.h` declares. A call lends a
+// book as numbers, with a record, a history or a room for figures, and gets the answer; nothing is
+// kept between calls. No function here has a `requires`: whatever the lengths and contents, they are
+// answered.
 #![tactic(auto)]
 
 ghost use Rattle.boundary.specs.Lent.{Freshens, Steps, Runs, Settles};
@@ -30,8 +31,7 @@ const RECORD_BYTES: usize = 24;
 const LEVEL_PLACES: usize = 3968;
 
 // The fresh book over whatever stood there, and 0; or 1 where a length is wrong, and nothing is written.
-#[unsafe(no_mangle)]
-pub extern "C" fn rionvakhe_fresh(book: &mut [i64], levels: &mut [u32]) -> u64
+pub fn rionvakhe_fresh(book: &mut [i64], levels: &mut [u32]) -> u64
     ensures { Freshens book.old levels.old result book.new levels.new }
 {
     if both(book.len() == BOOK_PLACES, levels.len() == LEVEL_PLACES) {
@@ -44,8 +44,7 @@ pub extern "C" fn rionvakhe_fresh(book: &mut [i64], levels: &mut [u32]) -> u64
 }
 
 // One record on a lent book: the reason, or 0 where it is done, and 32 times the number given.
-#[unsafe(no_mangle)]
-pub extern "C" fn rionvakhe_step(book: &mut [i64], levels: &mut [u32], record: &[u8]) -> u64
+pub fn rionvakhe_step(book: &mut [i64], levels: &mut [u32], record: &[u8]) -> u64
     ensures { Steps book.old levels.old «record».now result book.new levels.new }
 {
     if record.len() != RECORD_BYTES {
@@ -57,8 +56,7 @@ pub extern "C" fn rionvakhe_step(book: &mut [i64], levels: &mut [u32], record: &
 }
 
 // Every record of a history in turn, as far as there is room for answers: how many were answered.
-#[unsafe(no_mangle)]
-pub extern "C" fn rionvakhe_run(
+pub fn rionvakhe_run(
     book: &mut [i64],
     levels: &mut [u32],
     history: &[u8],
@@ -71,8 +69,7 @@ pub extern "C" fn rionvakhe_run(
 
 // The figures of each registered participant, in a lent room: the reason, or 0, and 32 times how many
 // there are.
-#[unsafe(no_mangle)]
-pub extern "C" fn rionvakhe_settle(book: &[i64], levels: &[u32], figures: &mut [u64]) -> u64
+pub fn rionvakhe_settle(book: &[i64], levels: &[u32], figures: &mut [u64]) -> u64
     ensures { Settles book.now levels.now figures.old result figures.new }
 {
     if both(is_readable(book), figures.len() == FIGURE_PLACES) {

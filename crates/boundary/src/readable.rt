@@ -17,6 +17,7 @@ fn window_reads(book: &[i64], at: usize) -> bool
     both(is_minute(book, at), is_minute(book, at + 1))
 }
 
+#[tactic(auto, unfolding(crate::specs::Readable::month_reads))]
 fn month_reads(book: &[i64]) -> bool
     ensures { result ≡ month_reads book.now }
 {
@@ -29,6 +30,7 @@ fn month_reads(book: &[i64]) -> bool
     )
 }
 
+#[tactic(auto, unfolding(crate::specs::Readable::account_reads))]
 fn account_reads(book: &[i64], at: usize) -> bool
     requires { at < book_places }
     ensures { result ≡ account_reads book.now at }
@@ -50,6 +52,7 @@ fn asked_reads(book: &[i64], status: u32, at: usize) -> bool
     }
 }
 
+#[tactic(auto, unfolding(crate::specs::Readable::allocation_reads))]
 fn allocation_reads(book: &[i64], at: usize) -> bool
     requires { at < book_places }
     ensures { result ≡ allocation_reads book.now at }
@@ -87,6 +90,7 @@ fn ledger_reads(book: &[i64]) -> bool
     reads
 }
 
+#[tactic(auto, unfolding(crate::specs::Readable::readable))]
 pub fn is_readable(book: &[i64]) -> bool
     ensures { result ≡ readable book.now }
 {
