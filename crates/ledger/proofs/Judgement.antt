@@ -1,18 +1,17 @@
 -- What a step that alters one allocation sees of a book is the book's: the roles of its parties, the record that it names, and where it is let in the
 -- account, the totals and the credits of the participant that it is judged by, who then has an account. Assumes nothing.
 use mathlib.Core.Path.{◌≡◌, refl, sym, ap, subst, ◌∙◌}
-use mathlib.Core.Bool.{Bool, true, false, cond, true≢false}
+use mathlib.Core.Bool.{true, false, cond, true≢false}
 use mathlib.Core.List.{List}
 use Prim.Native.Nat.{ℕ, ◌-◌, ◌≤◌, ◌<◌}
 use native.Mathlib.Omega.{arith}
-use lib.Dec.{ltb}
 use lib.ListN.{get_or}
 use borrow.Author.Tests.{lt-ltb, le-leb, leb-true, not-false, leb-false}
 use Rattle.units.specs.declared.Minutes.{Minutes}
 use Rattle.book.specs.declared.Month.{Month}
 use Rattle.book.specs.declared.Allocation.{Allocation}
 use Rattle.book.specs.Book.{Book, account, allocation, is_open, no_account, no_allocation, participants, most_given, most_quantity}
-use Rattle.book.specs.Words.{tradeable, tradeable_in}
+use Rattle.book.specs.Words.{tradeable_in}
 use Rattle.book.specs.Reasons.{not_registered, not_given, early, lowest, reason2, reason5, in_range, reason11, from_to}
 use Rattle.book.specs.Run.{usable}
 use Rattle.book.proofs.Tests.{neither, parts}
@@ -27,7 +26,7 @@ use Rattle.gate.specs.Rooms.{trades, allocation_step}
 use Rattle.gate.specs.Doors.{customer_in, number_in, ByTrade}
 use Rattle.ledger.specs.declared.totals.Totals.{Totals}
 use Rattle.ledger.specs.declared.trades.Seen.{Seen}
-use Rattle.ledger.specs.Ready.{LevelsFit, TotalsFit, Totalled, MonthFits, AccountFits}
+use Rattle.ledger.specs.Ready.{LevelsFit, TotalsFit, MonthFits, AccountFits}
 use Rattle.ledger.specs.Judging.{totals_at, place_of, judged_by, asks_credits, named, seen_in, QuantityFits, NumberLeft, Sees, Judges}
 use Rattle.ledger.proofs.Fitting.{by_kind, month_fits_lem, levels_fit_lem, account_fits_lem, quantity_low, totals_fit, accounts_long}
 use Rattle.ledger.proofs.Passed.{Passed, passed, given_range, registered_below, given_at}

@@ -1,7 +1,7 @@
 -- What a step has that is not refused at the door: none of reasons 2 to 11 applies to it, on the book at hand, or on one with the month and the roles
 -- that were seen. Assumes nothing.
 use mathlib.Core.Path.{◌≡◌, refl}
-use mathlib.Core.Bool.{Bool, true, false}
+use mathlib.Core.Bool.{true, false}
 use mathlib.Core.List.{[]}
 use Prim.Native.Nat.{ℕ, suc, ◌-◌, ◌≤◌, ◌<◌}
 use native.Mathlib.Omega.{arith}
@@ -10,12 +10,10 @@ use lib.ListN.{get_or-replicate, replicate}
 use borrow.Author.Tests.{not-false, eqb-false, ltb-false}
 use Rattle.record.specs.declared.Step.{Step}
 use Rattle.book.specs.declared.Month.{Month}
-use Rattle.book.specs.declared.Account.{Account}
-use Rattle.book.specs.Book.{Book, account, allocation, is_open, is_registered, no_account, participants}
+use Rattle.book.specs.Book.{Book, account, allocation, is_registered, no_account, participants}
 use Rattle.book.specs.Reasons.{early, lowest, not_registered, not_given, reason2, reason3, reason4, reason5, reason6, reason7, reason8, reason9, reason10, reason11, in_range}
-use Rattle.book.specs.Run.{usable}
 use Rattle.book.proofs.NoReason.{pass}
-use Rattle.book.proofs.Sound.{Opened, Given, opened_of}
+use Rattle.book.proofs.Sound.{Opened, Given}
 use Rattle.book.proofs.Bounds.{role_below}
 use Rattle.book.proofs.Tests.{neither}
 

@@ -1,6 +1,6 @@
 -- What a done step writes of one allocation is what document 01 writes: the record at its place, which is that of its number, or the next one; the totals
 -- are moved by that record, whose parties are the old one's, or fill an empty place; and the month has its minute and its number. By kind. Assumes nothing.
-use mathlib.Core.Path.{◌≡◌, refl, sym, ap, subst, ◌∙◌}
+use mathlib.Core.Path.{◌≡◌, refl, sym, ap, ◌∙◌}
 use mathlib.Core.Bool.{Bool, true, false, cond, ◌||◌}
 use mathlib.Core.List.{List}
 use Prim.Native.Nat.{ℕ, ◌+◌, ◌-◌, ◌≤◌, ◌<◌}
@@ -10,9 +10,8 @@ use lib.ListN.{length, get_or, set}
 use borrow.Author.Tests.{lt-ltb, ltb-true, le-leb, leb-true, leb-false, eqb-true, not-false}
 use Rattle.units.specs.declared.Minutes.{Minutes}
 use Rattle.book.specs.declared.Month.{Month}
-use Rattle.book.specs.declared.Account.{Account}
 use Rattle.book.specs.declared.Allocation.{Allocation}
-use Rattle.book.specs.Book.{Book, is_open, no_allocation, participants, most_given, most_quantity}
+use Rattle.book.specs.Book.{Book, is_open, no_allocation, most_given, most_quantity}
 use Rattle.book.specs.Reasons.{not_registered, not_given, from_to, reason2, reason5, in_range, reason11, reason_of}
 use Rattle.book.specs.Steps.{written, done, number_given}
 use Rattle.book.specs.Run.{usable}
@@ -26,7 +25,7 @@ use Rattle.gate.specs.declared.Trade.TheVariants.{Submit, Withdraw, Accept, AskR
 use Rattle.gate.specs.declared.AllocationStep.{AllocationStep}
 use Rattle.gate.specs.Rooms.{trades, allocation_step}
 use Rattle.ledger.specs.declared.stepped.Stepped.{Stepped}
-use Rattle.ledger.specs.Ready.{Totalled, TotalsMove, Ready}
+use Rattle.ledger.specs.Ready.{TotalsMove, Ready}
 use Rattle.ledger.specs.Judging.{place_of, NumberLeft}
 use Rattle.ledger.specs.Writing.{allocation_by, totals_after, traded_at}
 use Rattle.ledger.specs.Rooms.{DoesStep}

@@ -1,6 +1,6 @@
 -- What a step leaves of a sound book, in document 01's words, with the totals of the ledger that is left; and what each room promises: the same on every
 -- sound book with the parts that the room is given, whatever the others are, and those stay. Assumes nothing.
-use Rattle.std.specs.Prelude.{◌≡◌, false, cond, List, ℕ, ◌+◌, ◌-◌, ◌≤◌, ◌<◌, eqb, nat_abs, length}
+use Rattle.std.specs.Prelude.{◌≡◌, false, cond, List, ℕ, ◌+◌, ◌-◌, ◌≤◌, ◌<◌, eqb, nat_abs}
 use Rattle.record.specs.declared.Decoded.{Decoded}
 use Rattle.record.specs.declared.Decoded.TheVariants as D
 use Rattle.book.specs.declared.Month.{Month}

@@ -3,7 +3,6 @@
 use Rattle.std.specs.Prelude.{Bool, cond, ◌&&◌, List, ℕ, ◌+◌, ◌-◌, eqb, pos, ◌-ℤ◌, get_or, set}
 use Rattle.units.specs.declared.Minutes.{Minutes}
 use Rattle.units.specs.declared.Net.{Net}
-use Rattle.book.specs.declared.Answer.{Answer}
 use Rattle.book.specs.declared.Month.{Month}
 use Rattle.book.specs.declared.Account.{Account}
 use Rattle.book.specs.declared.Allocation.{Allocation}
