@@ -105,7 +105,7 @@ module _ (m : Month) (accounts : List Account) (ledger : List Allocation) (f : B
   month_reads_lem : month_reads ns ≡ true
   unfolding month_reads numbers_of
   month_reads_lem =
-      let h = f.month_fits_lem in
+      let h = f.month_fits in
       both _ _ (fits_to_lem most_byte m.days h.head.days_low)
       (both _ _ h.head.last_fits
       (both _ _ (fits_to_lem most_number m.given h.head.given_low)
@@ -120,7 +120,7 @@ module _ (m : Month) (accounts : List Account) (ledger : List Allocation) (f : B
       to_each participants (λ p. account_reads ns (account_place p))
       (λ p o.
       let a = get_or accounts p no_account in
-      let h = f.accounts_fit_lem p o in
+      let h = f.accounts_fit p o in
       both _ _ (ap (fits_to most_byte) (account_number p 0 (account_place p) o (omega arith) (omega arith)) ∙ fits_to_lem most_byte a.roles h.roles_low)
       (ap (fits_to most_thousandths) (account_number p 1 (account_place p + 1) o (omega arith) refl) ∙ fits_to_lem most_thousandths a.requirement.0 h.requirement_low))
 
@@ -146,14 +146,14 @@ module _ (m : Month) (accounts : List Account) (ledger : List Allocation) (f : B
   windows_are : (month_in ns).windows ≡ m.windows
   unfolding numbers_of tabled
   windows_are =
-      let h = f.month_fits_lem in
+      let h = f.month_fits in
       (λ i. window_is _ h.first i ∷ window_is _ h.second i ∷ window_is _ h.third i ∷ window_is _ h.fourth i ∷ [])
       ∙ tabled_all m.windows no_window 4 f.windows_long
 
   month_is : month_in ns ≡ m
   unfolding numbers_of
   month_is =
-      let h = f.month_fits_lem in
+      let h = f.month_fits in
       λ i. record {
         days = counted_is most_byte m.days h.head.days_low i;
         price = m.price;
@@ -165,7 +165,7 @@ module _ (m : Month) (accounts : List Account) (ledger : List Allocation) (f : B
   account_is : (p : ℕ) → p < participants → account_at ns (account_place p) ≡ get_or accounts p no_account
   account_is p o =
       let a = get_or accounts p no_account in
-      let h = f.accounts_fit_lem p o in
+      let h = f.accounts_fit p o in
       let roles = ap (counted most_byte) (account_number p 0 (account_place p) o (omega arith) (omega arith)) ∙ counted_is most_byte a.roles h.roles_low in
       let requirement = ap (counted most_thousandths) (account_number p 1 (account_place p + 1) o (omega arith) refl) ∙ counted_is most_thousandths a.requirement.0 h.requirement_low in
       λ i. record {

@@ -46,9 +46,9 @@ LedgerFits ledger n = (i : ℕ) → i < n → AllocationFits (get_or ledger i no
 
 -- a whole book, but for its levels
 pub record BookFits (m : Month) (accounts : List Account) (ledger : List Allocation) : Type 0 where
-  pub month_fits_lem : MonthFits m
+  pub month_fits : MonthFits m
   pub windows_long : length m.windows ≡ 4
   pub accounts_long : length accounts ≡ participants
-  pub accounts_fit_lem : AccountsFit accounts participants
+  pub accounts_fit : AccountsFit accounts participants
   pub ledger_long : length ledger ≡ most_given
   pub ledger_fits : LedgerFits ledger most_given

@@ -18,10 +18,10 @@ returns c =
           ∙ ap (λ l. sets (sets l 12 (flat account_numbers a.accounts)) 140 (flat allocation_numbers a.ledger)) c.write_month.ensures.0
           ∙ written_whole a.m a.accounts a.ledger few many a.book.now c.requires,
       record {
-        month_fits_lem = c.write_month.ensures.1;
+        month_fits = c.write_month.ensures.1;
         windows_long = four;
         accounts_long = few;
-        accounts_fit_lem = c.write_accounts.ensures.1;
+        accounts_fit = c.write_accounts.ensures.1;
         ledger_long = many;
         ledger_fits = c.write_ledger.ensures.1;
       },
