@@ -36,30 +36,30 @@ use Rattle.ledger.proofs.Passed.{Passed, passed, registered_below}
 
 -- ---- all three kinds
 module _ (b : Book) (x : AccountStep) where
-  abbrev kind_of_lem : AccountChange → Step
-  kind_of_lem change = sets_account x.participant change x.at
+  abbrev kind_of : AccountChange → Step
+  kind_of change = sets_account x.participant change x.at
 
-  none_later : (change : AccountChange) → lowest late b (kind_of_lem change) ≡ 0
+  none_later : (change : AccountChange) → lowest late b (kind_of change) ≡ 0
   unfolding reason12 reason13 reason14 reason15
   none_later (Roles k) = refl
   none_later (Requirement q) = refl
   none_later (Margin f) = refl
 
-  no_number : (change : AccountChange) → number_given b (kind_of_lem change) ≡ 0
+  no_number : (change : AccountChange) → number_given b (kind_of change) ≡ 0
   unfolding number_given
   no_number (Roles k) = refl
   no_number (Requirement q) = refl
   no_number (Margin f) = refl
 
   -- whoever is let in has an account: it is registered, or in range for REGISTER
-  below : usable b ≡ true → (change : AccountChange) → Passed b (kind_of_lem change) → x.participant < participants
+  below : usable b ≡ true → (change : AccountChange) → Passed b (kind_of change) → x.participant < participants
   unfolding reason2 reason5 in_range
   below u (Roles k) h = ltb-true x.participant participants (search parts)
   below u (Requirement q) h = registered_below (opened_of b u (not-false (is_open b) h.no2)) x.participant h.no5
   below u (Margin f) h = registered_below (opened_of b u (not-false (is_open b) h.no2)) x.participant h.no5
 
   done_is : (ts : List ℕ) → Totalled ts b.ledger → x.participant < participants → (change : AccountChange)
-      → with_month (at_minute x.at) (with_account x.participant (account_by change (net_in ts x.participant)) b) ≡ done b (kind_of_lem change)
+      → with_month (at_minute x.at) (with_account x.participant (account_by change (net_in ts x.participant)) b) ≡ done b (kind_of change)
   unfolding done written
   done_is ts h l (Roles k) = refl
   done_is ts h l (Requirement q) = refl

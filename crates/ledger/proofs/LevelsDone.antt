@@ -44,26 +44,26 @@ levels_is b p kind day f l = ap (some (b.month.days + 1 - day)) (fun_ext (λ k. 
 
 -- ---- both kinds alike
 module _ (b : Book) (x : LevelStep) where
-  abbrev kind_of_lem : Bool → Step
-  kind_of_lem creates = credits creates x.participant x.kind x.day x.quantity x.at
+  abbrev kind_of : Bool → Step
+  kind_of creates = credits creates x.participant x.kind x.day x.quantity x.at
 
-  in_range_lem : (creates : Bool) → Passed b (kind_of_lem creates)
+  in_range_lem : (creates : Bool) → Passed b (kind_of creates)
       → (not_registered b x.participant ≡ false) × ((from_to 1 4 x.kind && (from_to 1 b.month.days x.day && from_to 1 most_level x.quantity.0)) ≡ true)
   unfolding reason5 in_range
   in_range_lem true h = (h.no5, h.no7)
   in_range_lem false h = (h.no5, h.no7)
 
-  late_is : (creates : Bool) → lowest late b (kind_of_lem creates) ≡ cond (some_level b x.participant x.kind x.day (blocks creates x.quantity.0)) 14 0
+  late_is : (creates : Bool) → lowest late b (kind_of creates) ≡ cond (some_level b x.participant x.kind x.day (blocks creates x.quantity.0)) 14 0
   unfolding reason12 reason13 reason14 reason15
   late_is true = refl
   late_is false = refl
 
-  done_is : (creates : Bool) → done b (kind_of_lem creates) ≡ with_month (at_minute x.at) (with_levels (moved_by creates x.quantity.0) x.participant x.kind x.day b)
+  done_is : (creates : Bool) → done b (kind_of creates) ≡ with_month (at_minute x.at) (with_levels (moved_by creates x.quantity.0) x.participant x.kind x.day b)
   unfolding done written
   done_is true = refl
   done_is false = refl
 
-  no_number : (creates : Bool) → number_given b (kind_of_lem creates) ≡ 0
+  no_number : (creates : Bool) → number_given b (kind_of creates) ≡ 0
   unfolding number_given
   no_number true = refl
   no_number false = refl

@@ -4,17 +4,18 @@
 use mathlib.Core.Path.{◌≡◌, refl, sym, ap, ◌∙◌}
 use mathlib.Core.Bool.{Bool, true, false, cond}
 use mathlib.Core.List.{List, [], ◌++◌, map}
-use Prim.Native.Nat.{ℕ, zero, suc, ◌+◌, ◌-◌, ◌≤◌, ◌<◌}
+use Prim.Native.Nat.{ℕ, zero, suc, ◌+◌, ◌-◌, ◌≤◌}
 use native.Mathlib.Numerals.{add-one}
 use native.Mathlib.Omega.{arith}
 use lib.Dec.{eqb}
 use lib.ListN.{length, get_or, set, take, drop, replicate, length-append, length-map, length-replicate, length-set}
-use lib.Seq.{take-suc, drop-cons, length-take-le, set_at, append_snoc, take_at}
+use lib.Seq.{take_at}
 use borrow.Author.Tests.{eqb-true}
 use Rattle.book.specs.Book.{Book, participants}
 use Rattle.book.specs.Settlement as book
 use Rattle.sound.specs.declared.test.Checked.{Checked}
 use Rattle.sound.specs.Checking.{Checks}
+use Rattle.sound.proofs.Turns.{laid_more}
 use Rattle.settlement.specs.declared.figures.Figures.{Figures}
 use Rattle.settlement.specs.declared.listing.Settlement.{Settlement}
 use Rattle.settlement.specs.declared.settling.Settled.{Settled}
@@ -23,16 +24,6 @@ use Rattle.settlement.specs.Listing.{filled, listing, listed_if, settled_from, r
 use Rattle.settlement.specs.Settling.{reason_with, listed_with, written, Settles}
 use Rattle.settlement.proofs.Listed.{settled_most}
 use Rattle.settlement.proofs.Books.{settlement_is}
-
--- ---- the first i of a list, and then those of another of its length
-module _ {D : Type 0} (none : D) (t ys : List D) (e : length t ≡ length ys) where
-  abbrev stored : ℕ → List D
-  stored i = take i t ++ drop i ys
-
-  stored_suc : (i : ℕ) → i < length ys → set (stored i) i (get_or t i none) ≡ stored (i + 1)
-  stored_suc i l =
-      ap (λ (us : List D). set (take i t ++ us) i (get_or t i none)) (drop-cons ys i none l) ∙ set_at (take i t) (get_or ys i none) (drop (suc i) ys) (get_or t i none) i (length-take-le i t (omega arith))
-      ∙ sym (append_snoc (take i t) (get_or t i none) (drop (suc i) ys)) ∙ ap (λ (us : List D). us ++ drop (suc i) ys) (sym (take-suc t i none (omega arith))) ∙ ap stored (sym (add-one i))
 
 -- ---- a place more
 module _ (t room : List Figures) where
@@ -53,7 +44,7 @@ module _ (t room : List Figures) where
   written_first : (e : length t ≡ length room) (n : ℕ) → n ≤ length room → written t n room ≡ take n t ++ drop n room
   unfolding written
   written_first e zero h = refl
-  written_first e (suc n) h = ap (λ (zs : List Figures). set zs n (get_or t n no_figures)) (written_first e n (omega arith)) ∙ stored_suc no_figures t room e n (omega arith) ∙ ap (stored no_figures t room e) (add-one n)
+  written_first e (suc n) h = ap (λ (zs : List Figures). set zs n (get_or t n no_figures)) (written_first e n (omega arith)) ∙ laid_more room t no_figures n (omega arith) (omega arith) ∙ ap (λ k. take k t ++ drop k room) (add-one n)
 
 -- ---- a list in its places
 module _ (l : List book.Figures) (few : length l ≤ participants) where

@@ -3,13 +3,13 @@
 use mathlib.Core.Path.{◌≡◌, refl, sym, ap, subst, ◌∙◌}
 use mathlib.Core.Bool.{Bool, true, false, cond, ◌&&◌}
 use mathlib.Core.List.{List, ◌++◌, append-nil}
-use Prim.Native.Nat.{ℕ, suc, ◌+◌, ◌-◌, ◌<◌}
-use native.Mathlib.Numerals.{add-one}
+use Prim.Native.Nat.{ℕ, ◌+◌, ◌-◌, ◌<◌}
 use native.Mathlib.Decide.{dec_lt}
 use native.Mathlib.Omega.{arith}
 use lib.Dec.{eqb, ltb}
-use lib.ListN.{length, get_or, set, take, replicate}
-use lib.Seq.{take_all, take-suc, length-take-le, set_at, append_snoc}
+use lib.ListN.{length, get_or, set, take, replicate, length-replicate}
+use lib.Seq.{take_all}
+use Rattle.std.proofs.lemmas.List.{drop-replicate}
 use borrow.Author.Tests.{eqb-true, lt-ltb, le-ltb}
 use Rattle.book.specs.declared.Account.{Account}
 use Rattle.book.specs.declared.Allocation.{Allocation}
@@ -19,6 +19,7 @@ use Rattle.book.proofs.Tests.{parts}
 use Rattle.sound.specs.declared.test.Checked.{Checked}
 use Rattle.sound.specs.Check.{book_from, CappedTotals}
 use Rattle.sound.specs.Checking.{Checks}
+use Rattle.sound.proofs.Turns.{laid_more}
 
 -- ---- a table, as it is loaded
 module _ {A : Type 0} (N : ℕ) (l : List A) (d : A) where
@@ -36,9 +37,7 @@ module _ {A : Type 0} (N : ℕ) (l : List A) (d : A) where
 
   -- one more of them, put into its place
   pub one_more : (i : ℕ) → i < length l → i < N → set (take i l ++ replicate (N - i) d) i (get_or l i d) ≡ take (i + 1) l ++ replicate (N - (i + 1)) d
-  one_more i o room =
-      let less : N - i ≡ suc (N - suc i) = omega arith in
-      rw (less, add-one, take-suc l i d o) (set_at (take i l) d (replicate (N - suc i) d) (get_or l i d) i (length-take-le i l (omega arith)) ∙ sym (append_snoc (take i l) (get_or l i d) (replicate (N - suc i) d)))
+  one_more i o room = simp drop-replicate at (laid_more (replicate N d) l d i (omega (arith, length-replicate N d)) o)
 
   -- as many as there is room for
   pub as_many : take (cond (ltb (length l) N) (length l) N) l ++ replicate (N - cond (ltb (length l) N) (length l) N) d ≡ take N l ++ replicate (N - length l) d

@@ -1,5 +1,6 @@
 -- A loop that goes over a table, one place in a turn. What it has tested so far is a test at each place below the turn's number (`Tested`), and what it
--- has written so far are the entries wanted there (`Written`), until the table is the one wanted (`written_all`). Assumes nothing.
+-- has written so far are the entries wanted there (`Written`), until the table is the one wanted (`written_all`). Where it lays a list over the table, what
+-- stands so far is the first of the list and then the table's own (`laid_more`). Assumes nothing.
 use mathlib.Core.Path.{◌≡◌, refl, sym, ap, ◌∙◌}
 use mathlib.Core.Bool.{Bool, true, ◌&&◌}
 use mathlib.Core.List.{List}
@@ -7,7 +8,10 @@ use Prim.Native.Nat.{ℕ, ◌+◌, ◌≤◌, ◌<◌}
 use native.Mathlib.Numerals.{add-one}
 use native.Mathlib.Omega.{arith}
 use borrow.Author.Count.{below_none, below_more}
-use lib.ListN.{length, get_or, set, length-set}
+use lib.ListN.{length, get_or, set, take, drop, length-set}
+use Rattle.std.proofs.Common.{◌++◌}
+use Rattle.std.proofs.Math.Nat.{zero-add}
+use Rattle.std.proofs.lemmas.List.Edits.{paste_more}
 use lib.Seq.{get_or-set_same, get_or-set_other, ext_get_or}
 use Rattle.book.specs.Sound.{each}
 
@@ -45,3 +49,8 @@ module _ {A : Type 0} (d : A) (wanted : ℕ → A) (n : ℕ) where
 
   pub written_all : {i : ℕ} {l m : List A} → n ≤ i → Written d wanted n i l → length m ≡ n → ((k : ℕ) → k < n → get_or m k d ≡ wanted k) → l ≡ m
   written_all {i} {l} {m} o w e h = ext_get_or d l m (w.long ∙ sym e) (λ k b. w.so_far k (omega (arith, w.long)) ∙ sym (h k (omega (arith, w.long))))
+
+-- ---- a list over the table: one more of it, put into its place
+pub laid_more : {A : Type 0} (table list : List A) (d : A) (i : ℕ) → i < length table → i < length list
+    → set (take i list ++ drop i table) i (get_or list i d) ≡ take (i + 1) list ++ drop (i + 1) table
+laid_more table list d i room more = simp zero-add at (paste_more table 0 list i d (omega arith) more)

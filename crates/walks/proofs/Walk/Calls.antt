@@ -68,9 +68,9 @@ module _ (X : Value) where
   lft_of (held x κ q) n = κ
   lft_of (owned ys p room) n = n.0 ∷ []
 
-  abbrev pub share_of_lem : Shown X → Share
-  share_of_lem (held x κ q) = q
-  share_of_lem (owned ys p room) = full_share
+  abbrev pub share_of : Shown X → Share
+  share_of (held x κ q) = q
+  share_of (owned ys p room) = full_share
 
   -- the reference: a `&[T]` has no name, and a `&mut [T]` has one
   abbrev pub shown_at : Shown X → Bor (List (Of X))
@@ -115,7 +115,7 @@ lfts (single X ∷ ps) s ns = (ns.0.0 ∷ [], lfts ps s.1 ns.1)
 abbrev shares : (ps : List Param) → Args ps → Shares (refs ps)
 shares [] s = tt
 shares (plain X ∷ ps) s = shares ps s.1
-shares (shared X ∷ ps) s = (share_of_lem X s.0, shares ps s.1)
+shares (shared X ∷ ps) s = (share_of X s.0, shares ps s.1)
 shares (mutable X ∷ ps) s = (full_share, shares ps s.1)
 shares (single X ∷ ps) s = (full_share, shares ps s.1)
 
@@ -228,19 +228,19 @@ module _ {M : Type 1} {𝓤 : Ura M} (𝓛 : Logic 𝓤) where
   Returns Δ κ q S K φ = A.lft κ q ∗ ⟦ S ⟧ ∗ ⟦ K ⟧ ⊢ H.⇛ (guard 𝓤 φ (⋆ 𝓛 Δ))
 
   module _ (X : Value) where
-    shows_slice : (x : Shown X) → Lends (shown_item X 𝓤 x) (lft_of X x) (share_of_lem X x) (shown_own X x) (shown_kept X x)
+    shows_slice : (x : Shown X) → Lends (shown_item X 𝓤 x) (lft_of X x) (share_of X x) (shown_own X x) (shown_kept X x)
     shows_slice (held r κ q) =
         let x : Shown X = held r κ q in
-        qed 𝓛 (shown_item X 𝓤 x) ∵ updating ! $ at_once ! $ show ! (Lending (shown_item X 𝓤 x) (lft_of X x) (share_of_lem X x) (shown_own X x) (shown_kept X x)) (zero, zero) $ frame ! $
+        qed 𝓛 (shown_item X 𝓤 x) ∵ updating ! $ at_once ! $ show ! (Lending (shown_item X 𝓤 x) (lft_of X x) (share_of X x) (shown_own X x) (shown_kept X x)) (zero, zero) $ frame ! $
         use1 𝓛 (‵ (shown_own X x (zero, zero)) ⊛ ‵ (shown_own X x (zero, zero))) (shown_twice 𝓛 X κ (shown_at X x)) $ done !
     shows_slice (owned ys p room) =
         let x : Shown X = owned ys p room in
         qed 𝓛 (shown_item X 𝓤 x) ∵ updating ! $ lft_new ! tt (λ ν. move ! (1 ∷ []) $
         use1 𝓛 (later (‵ (fhide (elements_shared X.row ys p.0 p.1 (ν ∷ []))) ⊛ ‵ (shown_kept X x (ν, zero)))) (each_lends 𝓛 X.row (X.copied 𝓛) full_share ys p.0 p.1 (ν ∷ [])) $ await ! tt $ split ! $ at_once ! $
-        show ! (Lending (shown_item X 𝓤 x) (lft_of X x) (share_of_lem X x) (shown_own X x) (shown_kept X x)) (ν, zero) $ move ! (2 ∷ []) $ frame ! $
+        show ! (Lending (shown_item X 𝓤 x) (lft_of X x) (share_of X x) (shown_own X x) (shown_kept X x)) (ν, zero) $ move ! (2 ∷ []) $ frame ! $
         pure_i ! (shr_slice_at X.row (shown_at X x) (shr_slice_vals (shown_at X x))) (tt, (tt, tt)) (refl, room) $ fjoin ! $ done !)
 
-    shown_returns : (x : Shown X) (n : Name²) → Returns (shown_item X 𝓤 x) (lft_of X x n) (share_of_lem X x) ftrue (shown_kept X x n) (Unit {0})
+    shown_returns : (x : Shown X) (n : Name²) → Returns (shown_item X 𝓤 x) (lft_of X x n) (share_of X x) ftrue (shown_kept X x n) (Unit {0})
     shown_returns (held x κ q) n = qed 𝓛 (‵ (flft κ q) ∷ ‵ ftrue ∷ ‵ (shown_kept X (held x κ q) n) ∷ []) ∵ updating ! $ at_once ! $ check ! tt $ frame ! $ drop ! $ done !
     shown_returns (owned ys p room) n =
         qed 𝓛 (‵ (flft (n.0 ∷ []) full_share) ∷ ‵ ftrue ∷ ‵ (shown_kept X (owned ys p room) n) ∷ []) ∵ updating ! $ lft_end ! tt $ move ! (0 ∷ 2 ∷ []) $ lent_back ! tt $ move ! (1 ∷ []) $ drop ! $ at_once ! $ check ! tt $ done !
@@ -309,7 +309,7 @@ module _ {M : Type 1} {𝓤 : Ura M} (𝓛 : Logic 𝓤) where
   lends j (plain X ∷ ps) s =
       qed 𝓛 (raw (⋆ 𝓛 (before 𝓤 ps s.1)) ∷ []) ∵ updating ! $ use1 𝓛 (later (some (λ (ns : Names ps). raw (Toks j ps s.1 ns) ⊛ ‵ (Owns j ps s.1 ns) ⊛ ‵ (kept ps s.1 ns)))) (lends j ps s.1) $ await ! tt $ pick ! (λ ns. split3 ! $ at_once ! $
       show ! (Lent j (plain X ∷ ps) s) ns $ frame ! $ made ! X.row (Is X.row) (makes 𝓛 X) s.0.0 _ s.0.1 $ fjoin ! $ done !)
-  lends j (shared X ∷ ps) s = lent_before (suc j) ps s.1 (shown_item X 𝓤 s.0) (lft_of X s.0) (share_of_lem X s.0) (shown_own X s.0) (shown_kept X s.0) (shows_slice X s.0) (lends (suc j) ps s.1)
+  lends j (shared X ∷ ps) s = lent_before (suc j) ps s.1 (shown_item X 𝓤 s.0) (lft_of X s.0) (share_of X s.0) (shown_own X s.0) (shown_kept X s.0) (shows_slice X s.0) (lends (suc j) ps s.1)
   lends j (mutable X ∷ ps) s = lent_before (suc j) ps s.1 (slice_item X 𝓤 s.0 s.0.0) (λ n. n.0 ∷ []) full_share (slice_own X s.0) (slice_kept X s.0) (lends_all X s.0) (lends (suc j) ps s.1)
   lends j (single X ∷ ps) s = lent_before (suc j) ps s.1 (value_item X 𝓤 s.0 s.0.0) (λ n. n.0 ∷ []) full_share (value_own X s.0) (value_kept X s.0) (lends_value X s.0) (lends (suc j) ps s.1)
 
@@ -319,7 +319,7 @@ module _ {M : Type 1} {𝓤 : Ura M} (𝓛 : Logic 𝓤) where
       qed 𝓛 (raw (Toks j ps s.1 ns) ∷ ‵ (fsep ftrue (Lasts j ps s.1 ns ws.1)) ∷ ‵ (kept ps s.1 ns) ∷ []) ∵ updating ! $ move ! (1 ∷ []) $ fsplit ! $ drop ! $ move ! (1 ∷ 0 ∷ 2 ∷ []) $
       use3 𝓛 (later (given (Sized ps (values ps s.1) ws.1) (raw (⋆ 𝓛 (after 𝓤 ps s.1 ws.1))))) (returns j ps s.1 ns ws.1) $ await ! tt $ learn ! (λ p. at_once ! $ check ! (tt, p) $ done !)
   returns j (shared X ∷ ps) s ns ws =
-      returned_before (suc j) ps s.1 (shown_item X 𝓤 s.0) (lft_of X s.0 ns.0) (share_of_lem X s.0) ftrue (shown_kept X s.0 ns.0) (Unit {0}) (shown_returns X s.0 ns.0) (returns (suc j) ps s.1) ns.1 ws.1
+      returned_before (suc j) ps s.1 (shown_item X 𝓤 s.0) (lft_of X s.0 ns.0) (share_of X s.0) ftrue (shown_kept X s.0 ns.0) (Unit {0}) (shown_returns X s.0 ns.0) (returns (suc j) ps s.1) ns.1 ws.1
   returns j (mutable X ∷ ps) s ns ws =
       returned_before (suc j) ps s.1 (slice_item X 𝓤 s.0 ws.0) (ns.0.0 ∷ []) full_share (slice_last X s.0 ns.0 ws.0) (slice_kept X s.0 ns.0) (length ws.0 ≡ length s.0.0) (all_return X s.0 ns.0 ws.0) (returns (suc j) ps s.1) ns.1 ws.1
   returns j (single X ∷ ps) s ns ws =
