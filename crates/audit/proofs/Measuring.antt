@@ -10,11 +10,11 @@ use native.Mathlib.Omega.{arith}
 use borrow.Author.Tests.{le-leb, lt-leb}
 use lib.Dec.{leb}
 use lib.ListN.{length, replicate, length-replicate, get_or-replicate}
+use Rattle.std.specs.List.{sum}
 use Rattle.share.specs.Totals.{at, total, sum_to}
 use Rattle.share.specs.Nearness.{apart, miss, distance}
-use Rattle.share.proofs.Sums.{total-at, at_past, sum-add, sum_times, sum_le, sum_eq, term_le}
+use Rattle.share.proofs.Sums.{total-sum, total-at, at_past, sum-add, sum_times, sum_le, sum_eq, term_le}
 use Rattle.book.specs.Book.{most_quantity}
-use Rattle.audit.specs.declared.nearness.Measured.{Measured}
 use Rattle.audit.specs.Measuring.{comparable, Comparable, MissEach, Measures}
 
 -- a quantity is at most the total
@@ -50,21 +50,28 @@ module _ (w : List ℕ) (c : ℕ) (x : List ℕ) (small : c < 2 ^ 32) (f : Compa
       let gets : c * sum_to 256 (at w) ≤ 4294967295 * most_quantity = rw old (mul-le-mul word f.before) in
       omega (arith, sum_times 256 (total w) (at x), sum_times 256 c (at w))
 
--- the distances found sum up to the distance
-pub sum_is : (w : List ℕ) (c : ℕ) (x each : List ℕ) → length w ≡ 256 → MissEach w c x each → sum_to 256 (at each) ≡ distance w c x
+-- the distances found sum up to those that there are
+sum_each : (w : List ℕ) (c : ℕ) (x each : List ℕ) → MissEach w c x each → sum each ≡ sum_to 256 (miss w c x)
+sum_each w c x each m = sym (total-sum each) ∙ total-at each ∙ ap (λ n. sum_to n (at each)) m.long ∙ sum_eq 256 (at each) (miss w c x) m.is
+
+pub each_fits : (w : List ℕ) (c : ℕ) (x each : List ℕ) → c < 2 ^ 32 → Comparable w x → length w ≡ 256 → length x ≡ 256 → MissEach w c x each → sum each < 2 ^ 64
+each_fits w c x each small f lw lx m = omega (arith, sum_each w c x each m, sum_fits w c x small f lw lx)
+
+-- which is the distance
+sum_is : (w : List ℕ) (c : ℕ) (x each : List ℕ) → length w ≡ 256 → MissEach w c x each → sum each ≡ distance w c x
 unfolding distance
-sum_is w c x each l m = sum_eq 256 (at each) (miss w c x) m.is ∙ ap (λ n. sum_to n (miss w c x)) (sym l)
+sum_is w c x each l m = sum_each w c x each m ∙ ap (λ n. sum_to n (miss w c x)) (sym l)
 
 -- ---- what is answered
 module _ (w : List ℕ) (c : ℕ) (x : List ℕ) where
   -- nothing
-  pub unmeasured : (r : Measured) → comparable w x ≡ false → r ≡ record { accepted = 0; each = replicate 256 0; sum = 0 } → Measures w c x r
-  unmeasured r t e = rw e (record {
+  pub unmeasured : comparable w x ≡ false → Measures w c x (record { accepted = 0; each = replicate 256 0; sum = 0 })
+  unmeasured t = record {
     accepted_is = rw t;
     long = length-replicate {A = ℕ} 256 0;
     each_is = λ i o. rw t (get_or-replicate {A = ℕ} 256 i 0 0 o);
     sum_is = rw t;
-  })
+  }
 
   pub too_much_before : most_quantity < total w → comparable w x ≡ false
   unfolding comparable
@@ -75,8 +82,8 @@ module _ (w : List ℕ) (c : ℕ) (x : List ℕ) where
   too_much_after o = rw (lt-leb (total x) most_quantity o, and-false (leb (total w) most_quantity))
 
   -- the distances, and all of them
-  pub measured : Comparable w x → length w ≡ 256 → (each : List ℕ) (sum : ℕ) → MissEach w c x each → sum ≡ sum_to 256 (at each) → Measures w c x (record { accepted = total w; each = each; sum = sum })
+  pub measured : Comparable w x → length w ≡ 256 → (accepted sum' : ℕ) (each : List ℕ) → accepted ≡ total w → MissEach w c x each → sum' ≡ sum each → Measures w c x (record { accepted = accepted; each = each; sum = sum' })
   unfolding comparable
-  measured f l each sum m e =
+  measured f l accepted sum' each a m e =
       let both : comparable w x ≡ true = rw (le-leb (total w) most_quantity f.before, le-leb (total x) most_quantity f.after) in
-      record { accepted_is = rw both; long = m.long; each_is = λ i o. rw both (m.is i o); sum_is = rw both (e ∙ sum_is w c x each l m) }
+      record { accepted_is = rw both a; long = m.long; each_is = λ i o. rw both (m.is i o); sum_is = rw both (e ∙ sum_is w c x each l m) }

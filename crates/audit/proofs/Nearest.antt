@@ -9,11 +9,11 @@ use native.Mathlib.Nat.{eq-or-lt_of_le, le_of_suc-le-suc}
 use native.Mathlib.Omega.{arith}
 use borrow.Author.Tests.{le-leb, not-false}
 use lib.ListN.{length, length-map}
+use Rattle.std.specs.Prelude.{Some}
 use Rattle.units.specs.declared.Minutes.{Minutes}
 use Rattle.share.specs.Totals.{at, total, largest}
 use Rattle.share.specs.Nearness.{miss, distance, farthest, SharesOut}
 use Rattle.record.specs.declared.Step.TheVariants.{OperatorAmends}
-use Rattle.record.specs.declared.Decoded.TheVariants as D
 use Rattle.record.specs.Record.{decode_of}
 use Rattle.book.specs.Book.{Book, account, is_open, is_generator, most_quantity, participants}
 use Rattle.book.specs.Words.{accepted_in, accepted, tradeable}
@@ -54,7 +54,7 @@ pub record Cuts (b : Book) (bytes : List ℕ) (g : ℕ) (t : Minutes) : Type 0 w
   pub reason : reason_of b (OperatorAmends g t) ≡ 0
   pub book : record_book b bytes ≡ book_of b (OperatorAmends g t)
 
-cuts : (b : Book) (bytes : List ℕ) (g : ℕ) (t : Minutes) → decode_of bytes ≡ D.Step (OperatorAmends g t) → (record_answer b bytes).reason ≡ 0 → Cuts b bytes g t
+cuts : (b : Book) (bytes : List ℕ) (g : ℕ) (t : Minutes) → decode_of bytes ≡ Some (OperatorAmends g t) → (record_answer b bytes).reason ≡ 0 → Cuts b bytes g t
 cuts b bytes g t e z = ⊎_elim done (λ (r : Refused b (record_book b bytes) (record_answer b bytes)). absurd (r.reason z)) (recorded b bytes)
   where
     done : Done b bytes → Cuts b bytes g t
@@ -94,7 +94,7 @@ module _ (b : Book) (bytes : List ℕ) (g : ℕ) (t : Minutes) (k : Cuts b bytes
   long = length-map b.ledger (accepted_in g) ∙ opened.lengths.ledger
 
 -- for what `misses` answers of the ledger before and after such a record
-pub measured_cut : (b : Book) (bytes : List ℕ) (g : ℕ) (t : Minutes) (r : Measured) → decode_of bytes ≡ D.Step (OperatorAmends g t) → (record_answer b bytes).reason ≡ 0
+pub measured_cut : (b : Book) (bytes : List ℕ) (g : ℕ) (t : Minutes) (r : Measured) → decode_of bytes ≡ Some (OperatorAmends g t) → (record_answer b bytes).reason ≡ 0
     → Measures (quantities_of g b.ledger) (tradeable b g) (quantities_of g (record_book b bytes).ledger) r → CutMeasured b g r
 unfolding farthest
 measured_cut b bytes g t r e z m =

@@ -1,17 +1,17 @@
 -- One record, of 1 to 24 bytes, as a history of its own: a run does it alone, so that the book is the one after it and the word is its answer's. A reason
 -- is below 32, so that the word's remainder is the reason (`reason_is`). Assumes nothing.
 use mathlib.Core.Path.{◌≡◌, refl, ap, ◌∙◌}
-use mathlib.Core.Bool.{Bool, true, false, cond, ◌&&◌}
+use mathlib.Core.Logic.{◌≢◌}
+use mathlib.Core.Bool.{Bool, true, false, cond, ◌&&◌, and-false}
 use mathlib.Core.List.{List, [], ◌∷◌}
-use Prim.Native.Nat.{ℕ, ◌%◌, ◌≤◌, ◌<◌}
+use Prim.Native.Nat.{ℕ, ◌≤◌, ◌<◌}
 use native.Mathlib.Omega.{arith}
 use lib.Dec.{eqb, leb}
 use lib.ListN.{length, get_or, set}
 use lib.Seq.{take_all, get_or-set_same}
-use borrow.Author.Tests.{leb-true}
+use borrow.Author.Tests.{leb-true, eq-eqb, ne_eqb}
+use Rattle.std.specs.Prelude.{Option, Some, None}
 use Rattle.record.specs.declared.Step.{Step}
-use Rattle.record.specs.declared.Decoded.{Decoded}
-use Rattle.record.specs.declared.Decoded.TheVariants as D
 use Rattle.record.specs.Record.{decode_of}
 use Rattle.book.specs.declared.Month.{Month}
 use Rattle.book.specs.declared.Account.{Account}
@@ -21,10 +21,11 @@ use Rattle.book.specs.Reasons.{Line, table, lowest, reason_of}
 use Rattle.book.specs.Steps.{refusal, number_given, answer_of}
 use Rattle.book.specs.Run.{usable, decoded_answer, record_answer, record_book, records_of, book_after, answer_at}
 use Rattle.book.proofs.Tests.{and_left, and_right}
-use Rattle.ledger.specs.Running.{word_of, written, answered, Runs}
+use Rattle.ledger.specs.Running.{reason_in, word_of, written, answered, Runs}
 use Rattle.audit.specs.declared.origin.Put.{Put}
-use Rattle.audit.specs.Following.{no_put, put_in}
-use Rattle.audit.specs.Putting.{said_puts, PutEach, FollowsOne}
+use Rattle.audit.specs.declared.origin.Followed.{Followed}
+use Rattle.audit.specs.Following.{book_held, put_in}
+use Rattle.audit.specs.Putting.{puts_by, said_puts, PutEach, FollowsOne}
 use Rattle.audit.proofs.Putting.{put_after_lem}
 
 -- ---- the reasons of the table are 15 at most
@@ -47,14 +48,14 @@ step_low : (b : Book) (s : Step) → reason_of b s ≤ 15
 unfolding reason_of
 step_low b s = lowest_low b s table refl
 
-decoded_low : (b : Book) (d : Decoded) → (decoded_answer b d).reason ≤ 15
+decoded_low : (b : Book) (d : Option Step) → (decoded_answer b d).reason ≤ 15
 unfolding decoded_answer answer_of
-decoded_low b (D.Step s) = by (eqb (reason_of b s) 0)
+decoded_low b (Some s) = by (eqb (reason_of b s) 0)
   where
     by : (t : Bool) → (cond t (record { reason = 0; number = number_given b s }) (refusal (reason_of b s))).reason ≤ 15
     by true = omega arith
     by false = step_low b s
-decoded_low b D.Refused = omega arith
+decoded_low b None = omega arith
 
 reason_low : (b : Book) (bytes : List ℕ) → (record_answer b bytes).reason ≤ 15
 unfolding record_answer
@@ -76,7 +77,7 @@ module _ {b : Book} {bytes room : List ℕ} {month : Month} {records : ℕ} {acc
   unfolding book_after
   left = ap (book_after b (records_of bytes)) alone ∙ ap (record_book b) whole
 
-  reason_is : get_or answers 0 0 % 32 ≡ (record_answer b bytes).reason
+  reason_is : reason_in (get_or answers 0 0) ≡ (record_answer b bytes).reason
   unfolding book_after answer_at written
   reason_is =
       let word = word_of (record_answer b bytes).reason (record_answer b bytes).number in
@@ -85,15 +86,28 @@ module _ {b : Book} {bytes room : List ℕ} {month : Month} {records : ℕ} {acc
       let stands : get_or answers 0 0 ≡ word = ap (λ l. get_or l 0 0) answer ∙ get_or-set_same room 0 word 0 (omega arith) in
       omega (arith, reason_low b bytes)
 
-  -- what it leaves is one record followed
-  pub follows-one : (place : ℕ) (puts r : List Put) (said : Decoded) → said ≡ decode_of bytes
-      → PutEach (λ n l. eqb (get_or answers 0 0 % 32) 0 && said_puts said b.month.given n l) b.ledger (put_in place said) puts r
-      → FollowsOne b bytes place puts (record { month = month; accounts = accounts; ledger = ledger; puts = r }) lv
-  follows-one place puts r said e p = record {
-    month_is = ran.does.month_is ∙ ap (λ x. x.month) left;
-    accounts_are = ran.does.accounts_are ∙ ap (λ x. x.accounts) left;
-    levels_are = ran.does.levels_are ∙ ap (λ x. x.levels) left;
-    ledger_is = ran.does.ledger_is ∙ ap (λ x. x.ledger) left;
+  -- what it leaves is one record followed, whatever book held whole and places of puts it is of
+  pub follows_one : (place : ℕ) (puts : List (Option Put)) (r : Followed) (said : Option Step) → book_held r.book lv ≡ record { month = month; accounts = accounts; levels = lv; ledger = ledger }
+      → said ≡ decode_of bytes → PutEach (λ n l. eqb (reason_in (get_or answers 0 0)) 0 && said_puts said b.month.given n l) b.ledger (put_in place said) puts r.puts
+      → FollowsOne b bytes place puts r lv
+  follows_one place puts r said h e p = record {
+    book_is = h ∙ (λ j. record { month = ran.does.month_is j; accounts = ran.does.accounts_are j; levels = ran.does.levels_are j; ledger = ran.does.ledger_is j }) ∙ left;
     long = p.long;
-    each = λ i o. rw e at (p.each i o) ∙ put_after_lem b i bytes place (get_or answers 0 0 % 32) (get_or puts i no_put) reason_is;
+    each = λ i o. rw e at (p.each i o) ∙ put_after_lem b i bytes place (reason_in (get_or answers 0 0)) (get_or puts i None) reason_is;
   }
+
+-- ---- what stands after a record, by the reason of its answer and what it says
+module _ (reason given : ℕ) (ledger : List Allocation) (step : Option Put) (puts : List (Option Put)) where
+  -- a refused one leaves what stands there
+  pub refused : (said : Option Step) → reason ≢ 0 → length puts ≡ 256 → PutEach (λ n l. eqb reason 0 && said_puts said given n l) ledger step puts puts
+  refused said z e = record { long = e; each = λ i _. rw (ne_eqb reason 0 z) }
+
+  -- one that says no step too
+  pub no_step : length puts ≡ 256 → PutEach (λ n l. eqb reason 0 && said_puts None given n l) ledger step puts puts
+  unfolding said_puts
+  no_step e = record { long = e; each = λ i _. rw (and-false (eqb reason 0)) }
+
+  -- a done step puts what it puts
+  pub step_done : (s : Step) (r : List (Option Put)) → reason ≡ 0 → PutEach (puts_by s given) ledger step puts r → PutEach (λ n l. eqb reason 0 && said_puts (Some s) given n l) ledger step puts r
+  unfolding said_puts
+  step_done s r z p = record { long = p.long; each = λ i o. rw (eq-eqb reason 0 z) (p.each i o) }

@@ -7,13 +7,13 @@ use native.Mathlib.Nat.{add-suc}
 use native.Mathlib.Omega.{arith}
 use lib.ListN.{length, get_or, take, drop, length-append, length-drop}
 use lib.Seq.{take-append-le, drop-append-le, drop-append-add}
+use Rattle.std.specs.Prelude.{Option, None}
 use Rattle.book.specs.Book.{Book}
 use Rattle.book.specs.Run.{record_book, records_of, book_after}
-use Rattle.sound.specs.Check.{book_from}
 use Rattle.ledger.specs.Running.{records_in}
 use Rattle.audit.specs.declared.origin.Put.{Put}
 use Rattle.audit.specs.declared.origin.Followed.{Followed}
-use Rattle.audit.specs.Following.{no_put, put_after, place_at, put_from, Follows}
+use Rattle.audit.specs.Following.{book_held, put_after, place_at, put_from, Follows}
 
 module _ (b : Book) (records : ℕ → List ℕ) (k : ℕ) where
   -- the records from k on
@@ -25,7 +25,7 @@ module _ (b : Book) (records : ℕ → List ℕ) (k : ℕ) where
   book_in_pieces zero = let none : k + 0 ≡ k = omega arith in ap (book_after b records) none
   book_in_pieces (suc m) = rw add-suc (ap (λ x. record_book x (records (k + m))) (book_in_pieces m))
 
-  pub put_in_pieces : (done n m : ℕ) (before : Put)
+  pub put_in_pieces : (done n m : ℕ) (before : Option Put)
       → put_from b records done n (k + m) before ≡ put_from (book_after b records k) rest (done + k) n m (put_from b records done n k before)
   unfolding put_from
   put_in_pieces done n zero before = let none : k + 0 ≡ k = omega arith in ap (λ j. put_from b records done n j before) none
@@ -40,7 +40,7 @@ module _ (b : Book) (records others : ℕ → List ℕ) where
   same_book zero e = refl
   same_book (suc m) e = λ j. record_book (same_book m (λ i o. e i (omega arith)) j) (e m (omega arith) j)
 
-  same_put : (done n m : ℕ) (before : Put) → ((i : ℕ) → i < m → records i ≡ others i) → put_from b records done n m before ≡ put_from b others done n m before
+  same_put : (done n m : ℕ) (before : Option Put) → ((i : ℕ) → i < m → records i ≡ others i) → put_from b records done n m before ≡ put_from b others done n m before
   unfolding put_from
   same_put done n zero before e = refl
   same_put done n (suc m) before e =
@@ -62,20 +62,17 @@ module _ (first second : List ℕ) (whole : length first % 24 ≡ 0) where
   count = omega (arith, length-append first second)
 
   -- following the one and then the other is following the file
-  pub in_pieces : (b : Book) (done : ℕ) (puts : List Put) (r r' : Followed) (lv lv' : List ℕ) → Follows b first done puts r lv
-      → Follows (book_from r.month r.accounts lv r.ledger) second (done + records_in first) r.puts r' lv' → Follows b (first ++ second) done puts r' lv'
+  pub in_pieces : (b : Book) (done : ℕ) (puts : List (Option Put)) (r r' : Followed) (lv lv' : List ℕ) → Follows b first done puts r lv
+      → Follows (book_held r.book lv) second (done + records_in first) r.puts r' lv' → Follows b (first ++ second) done puts r' lv'
   in_pieces b done puts r r' lv lv' f g = record {
-    month_is = g.month_is ∙ ap (λ x. x.month) last;
-    accounts_are = g.accounts_are ∙ ap (λ x. x.accounts) last;
-    levels_are = g.levels_are ∙ ap (λ x. x.levels) last;
-    ledger_is = g.ledger_is ∙ ap (λ x. x.ledger) last;
+    book_is = g.book_is ∙ last;
     long = g.long;
     puts_are = λ i o.
         g.puts_are i o
-        ∙ (λ j. put_from (here j) (records_of second) (done + k) (suc i) m ((f.puts_are i o ∙ sym (same_put b file (records_of first) done (suc i) k (get_or puts i no_put) front)) j))
-        ∙ sym (same_put (book_after b file k) (rest b file k) (records_of second) (done + k) (suc i) m (put_from b file done (suc i) k (get_or puts i no_put)) (λ n _. back n))
-        ∙ sym (put_in_pieces b file k done (suc i) m (get_or puts i no_put))
-        ∙ ap (λ n. put_from b file done (suc i) n (get_or puts i no_put)) (sym count);
+        ∙ (λ j. put_from (here j) (records_of second) (done + k) (suc i) m ((f.puts_are i o ∙ sym (same_put b file (records_of first) done (suc i) k (get_or puts i None) front)) j))
+        ∙ sym (same_put (book_after b file k) (rest b file k) (records_of second) (done + k) (suc i) m (put_from b file done (suc i) k (get_or puts i None)) (λ n _. back n))
+        ∙ sym (put_in_pieces b file k done (suc i) m (get_or puts i None))
+        ∙ ap (λ n. put_from b file done (suc i) n (get_or puts i None)) (sym count);
   }
     where
       k : ℕ
@@ -87,10 +84,10 @@ module _ (first second : List ℕ) (whole : length first % 24 ≡ 0) where
       file : ℕ → List ℕ
       file = records_of (first ++ second)
 
-      here : book_from r.month r.accounts lv r.ledger ≡ book_after b file k
-      here = (λ j. record { month = f.month_is j; accounts = f.accounts_are j; levels = f.levels_are j; ledger = f.ledger_is j }) ∙ sym (same_book b file (records_of first) k front)
+      here : book_held r.book lv ≡ book_after b file k
+      here = f.book_is ∙ sym (same_book b file (records_of first) k front)
 
-      last : book_after (book_from r.month r.accounts lv r.ledger) (records_of second) m ≡ book_after b file (records_in (first ++ second))
+      last : book_after (book_held r.book lv) (records_of second) m ≡ book_after b file (records_in (first ++ second))
       last =
           (λ j. book_after (here j) (records_of second) m)
           ∙ sym (same_book (book_after b file k) (rest b file k) (records_of second) m (λ n _. back n))

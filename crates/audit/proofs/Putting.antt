@@ -7,10 +7,9 @@ use Prim.Native.Nat.{ℕ, suc, ◌-◌}
 use native.Mathlib.Omega.{arith}
 use lib.Dec.{eqb}
 use lib.ListN.{get_or}
+use Rattle.std.specs.Prelude.{Option, Some, None}
 use Rattle.record.specs.declared.Step.{Step}
 use Rattle.record.specs.declared.Step.TheVariants.{Open, Window, Register, Requirement, Margin, Create, Terminate, Submit, Withdraw, Accept, AskReversal, AgreeReversal, GeneratorAmends, OperatorAmends}
-use Rattle.record.specs.declared.Decoded.{Decoded}
-use Rattle.record.specs.declared.Decoded.TheVariants as D
 use Rattle.record.specs.Record.{decode_of}
 use Rattle.book.specs.Book.{Book, no_allocation}
 use Rattle.book.specs.Cut.{is_cut}
@@ -38,13 +37,13 @@ module _ (b : Book) (i : ℕ) where
   step_puts (GeneratorAmends a n q t) = refl
   step_puts (OperatorAmends a t) = let here : suc i - 1 ≡ i = omega arith in ap (λ k. is_cut a (get_or b.ledger k no_allocation)) here
 
-  said_puts_lem : (d : Decoded) → decoded_puts b d (suc i) ≡ said_puts d b.month.given (suc i) (get_or b.ledger i no_allocation)
+  said_puts_lem : (d : Option Step) → decoded_puts b d (suc i) ≡ said_puts d b.month.given (suc i) (get_or b.ledger i no_allocation)
   unfolding decoded_puts said_puts
-  said_puts_lem (D.Step s) = step_puts s
-  said_puts_lem D.Refused = refl
+  said_puts_lem (Some s) = step_puts s
+  said_puts_lem None = refl
 
   -- what stands for an allocation after a record, from the reason of its answer and what it says
-  pub put_after_lem : (bytes : List ℕ) (place reason : ℕ) (before : Put) → reason ≡ (record_answer b bytes).reason
+  pub put_after_lem : (bytes : List ℕ) (place reason : ℕ) (before : Option Put) → reason ≡ (record_answer b bytes).reason
       → cond (eqb reason 0 && said_puts (decode_of bytes) b.month.given (suc i) (get_or b.ledger i no_allocation)) (put_in place (decode_of bytes)) before ≡ put_after b bytes place before (suc i)
   unfolding put_after record_puts
   put_after_lem bytes place reason before e = ap (λ t. cond t (put_in place (decode_of bytes)) before) (λ k. eqb (e k) 0 && sym (said_puts_lem (decode_of bytes)) k)

@@ -1,17 +1,15 @@
 -- What the code's own functions answer of one record: whether its step puts a quantity, from the step, the number of allocations given and the
 -- allocation. `proofs/Putting` shows that this is `record_puts`. Assumes nothing.
-use Rattle.std.specs.Prelude.{◌≡◌, Bool, false, cond, List, ℕ, suc, ◌+◌, ◌<◌, eqb, length, get_or}
+use Rattle.std.specs.Prelude.{◌≡◌, Bool, false, cond, List, ℕ, suc, ◌+◌, ◌<◌, eqb, length, get_or, Option, Some, None}
 use Rattle.record.specs.declared.Step.{Step}
 use Rattle.record.specs.declared.Step.TheVariants.{Open, Window, Register, Requirement, Margin, Create, Terminate, Submit, Withdraw, Accept, AskReversal, AgreeReversal, GeneratorAmends, OperatorAmends}
-use Rattle.record.specs.declared.Decoded.{Decoded}
-use Rattle.record.specs.declared.Decoded.TheVariants as D
 use Rattle.book.specs.declared.Allocation.{Allocation}
 use Rattle.book.specs.Book.{Book, no_allocation}
 use Rattle.book.specs.Cut.{is_cut}
 use Rattle.book.specs.Run.{record_book}
 use Rattle.audit.specs.declared.origin.Put.{Put}
 use Rattle.audit.specs.declared.origin.Followed.{Followed}
-use Rattle.audit.specs.Following.{no_put, put_after}
+use Rattle.audit.specs.Following.{book_held, put_after}
 
 -- a done step puts the quantity of allocation n, which is l: `puts` of a book in which so many numbers are given
 unfoldable pub puts_by : Step → ℕ → ℕ → Allocation → Bool
@@ -31,20 +29,17 @@ puts_by (GeneratorAmends a m q t) given n l = eqb n m
 puts_by (OperatorAmends a t) given n l = is_cut a l
 
 -- what a record says, were it done
-unfoldable pub said_puts : Decoded → ℕ → ℕ → Allocation → Bool
-said_puts (D.Step s) given n l = puts_by s given n l
-said_puts D.Refused given n l = false
+unfoldable pub said_puts : Option Step → ℕ → ℕ → Allocation → Bool
+said_puts (Some s) given n l = puts_by s given n l
+said_puts None given n l = false
 
 -- for each allocation the step, where it puts the quantity, else what stood there
-pub record PutEach (test : ℕ → Allocation → Bool) (ledger : List Allocation) (step : Put) (puts r : List Put) : Type 0 where
+pub record PutEach (test : ℕ → Allocation → Bool) (ledger : List Allocation) (step : Option Put) (puts r : List (Option Put)) : Type 0 where
   pub long : length r ≡ 256
-  pub each : (i : ℕ) → i < 256 → get_or r i no_put ≡ cond (test (suc i) (get_or ledger i no_allocation)) step (get_or puts i no_put)
+  pub each : (i : ℕ) → i < 256 → get_or r i None ≡ cond (test (suc i) (get_or ledger i no_allocation)) step (get_or puts i None)
 
 -- one record followed
-pub record FollowsOne (b : Book) (bytes : List ℕ) (place : ℕ) (puts : List Put) (r : Followed) (lv : List ℕ) : Type 0 where
-  pub month_is : r.month ≡ (record_book b bytes).month
-  pub accounts_are : r.accounts ≡ (record_book b bytes).accounts
-  pub levels_are : lv ≡ (record_book b bytes).levels
-  pub ledger_is : r.ledger ≡ (record_book b bytes).ledger
+pub record FollowsOne (b : Book) (bytes : List ℕ) (place : ℕ) (puts : List (Option Put)) (r : Followed) (lv : List ℕ) : Type 0 where
+  pub book_is : book_held r.book lv ≡ record_book b bytes
   pub long : length r.puts ≡ 256
-  pub each : (i : ℕ) → i < 256 → get_or r.puts i no_put ≡ put_after b bytes place (get_or puts i no_put) (suc i)
+  pub each : (i : ℕ) → i < 256 → get_or r.puts i None ≡ put_after b bytes place (get_or puts i None) (suc i)

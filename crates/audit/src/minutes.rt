@@ -7,10 +7,5 @@ use units::Minutes;
 pub fn minutes_away(m: Minutes) -> u64
     ensures { result ≡ nat_abs m.0 }
 {
-    let z = m.0;
-    if z < 0 {
-        ((-1 - z) as u32) as u64 + 1
-    } else {
-        (z as u32) as u64
-    }
+    u64::from(m.0.unsigned_abs())
 }

@@ -9,9 +9,8 @@ use native.Mathlib.Decide.{ℕ_discrete}
 use native.Mathlib.Omega.{arith}
 use lib.Seq.{ext_get_or}
 use borrow.Author.Tests.{ne_eqb}
+use Rattle.std.specs.Prelude.{Option, Some, None}
 use Rattle.record.specs.declared.Step.{Step}
-use Rattle.record.specs.declared.Decoded.{Decoded}
-use Rattle.record.specs.declared.Decoded.TheVariants as D
 use Rattle.record.specs.Record.{decode_of}
 use Rattle.book.specs.Book.{Book, no_account, no_allocation, no_window, most_days}
 use Rattle.book.specs.Words.{level_place}
@@ -47,14 +46,14 @@ pub recorded : (b : Book) (bytes : List ℕ) → Done b bytes ⊎ Refused b (rec
 unfolding record_book record_answer decoded_book decoded_answer answer_of
 recorded b bytes = with-book (usable b) refl
   where
-    step : (s : Step) → decode_of bytes ≡ D.Step s → usable b ≡ true → Dec (reason_of b s ≡ 0)
+    step : (s : Step) → decode_of bytes ≡ Some s → usable b ≡ true → Dec (reason_of b s ≡ 0)
         → Done b bytes ⊎ Refused b (record_book b bytes) (record_answer b bytes)
     step s e u (yes r) = inl (record { step = s; decoded = e; usable_book = u; reason = r; answer = rw (u, e, r); book = rw (u, e) })
     step s e u (no r) = inr (rw (u, e) (refused b s r))
 
-    decoded : (d : Decoded) → decode_of bytes ≡ d → usable b ≡ true → Done b bytes ⊎ Refused b (record_book b bytes) (record_answer b bytes)
-    decoded (D.Step s) e u = step s e u (ℕ_discrete (reason_of b s) 0)
-    decoded D.Refused e u = inr (rw (u, e) (first_reason b))
+    decoded : (d : Option Step) → decode_of bytes ≡ d → usable b ≡ true → Done b bytes ⊎ Refused b (record_book b bytes) (record_answer b bytes)
+    decoded (Some s) e u = step s e u (ℕ_discrete (reason_of b s) 0)
+    decoded None e u = inr (rw (u, e) (first_reason b))
 
     with-book : (u : Bool) → usable b ≡ u → Done b bytes ⊎ Refused b (record_book b bytes) (record_answer b bytes)
     with-book true u = decoded (decode_of bytes) refl u

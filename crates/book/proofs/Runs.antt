@@ -4,18 +4,18 @@ use mathlib.Core.Path.{◌≡◌}
 use mathlib.Core.Bool.{true}
 use mathlib.Core.List.{List}
 use Prim.Native.Nat.{ℕ, zero, suc}
-use Rattle.record.specs.declared.Decoded.{Decoded}
-use Rattle.record.specs.declared.Decoded.TheVariants as D
+use Rattle.std.specs.Prelude.{Option, Some, None}
 use Rattle.record.specs.Record.{decode_of}
+use Rattle.record.specs.declared.Step.{Step}
 use Rattle.book.specs.Book.{Book, fresh}
 use Rattle.book.specs.Run.{decoded_answer, decoded_book, usable, record_answer, record_book, book_after, answer_at}
 use Rattle.book.proofs.Sound.{fresh-sound}
 use Rattle.book.proofs.Keeps.{keeps}
 
-decoded_keeps : (b : Book) (d : Decoded) → usable b ≡ true → usable (decoded_book b d) ≡ true
+decoded_keeps : (b : Book) (d : Option Step) → usable b ≡ true → usable (decoded_book b d) ≡ true
 unfolding decoded_book
-decoded_keeps b (D.Step s) u = keeps b s u
-decoded_keeps b D.Refused u = u
+decoded_keeps b (Some s) u = keeps b s u
+decoded_keeps b None u = u
 
 -- ---- a record on a usable book
 module _ (b : Book) (bytes : List ℕ) (u : usable b ≡ true) where

@@ -1,10 +1,9 @@
 -- Document 01, "The step record", the column "Does", read as a limit: for each kind the places of the book that a done step may alter (`Alters`).
 -- Every other place keeps what it holds, and every table its length (`May`). A refused step alters nothing (`Refused`), and a record is a done
 -- step's (`Done`) or refused. Places count from 0, as the tables do: allocation number n stands at n - 1, and so does window n. Assumes nothing.
-use Rattle.std.specs.Prelude.{◌≡◌, ◌⊎◌, ◌≢◌, true, cond, List, ℕ, ◌+◌, ◌-◌, ◌%◌, ◌≤◌, leb, length, get_or}
+use Rattle.std.specs.Prelude.{◌≡◌, ◌⊎◌, ◌≢◌, true, cond, List, ℕ, ◌+◌, ◌-◌, ◌%◌, ◌≤◌, leb, length, get_or, Some}
 use Rattle.record.specs.declared.Step.{Step}
 use Rattle.record.specs.declared.Step.TheVariants.{Open, Window, Register, Requirement, Margin, Create, Terminate, Submit, Withdraw, Accept, AskReversal, AgreeReversal, GeneratorAmends, OperatorAmends}
-use Rattle.record.specs.declared.Decoded.TheVariants as D
 use Rattle.record.specs.Record.{decode_of}
 use Rattle.book.specs.declared.Window as W
 use Rattle.book.specs.declared.Month.{Month}
@@ -126,7 +125,7 @@ pub record Refused (b b' : Book) (a : Answer) : Type 0 where
 -- a done record: it is a step's, the book can be used, no reason applies to the step, and answer and book are that step's
 pub record Done (b : Book) (bytes : List ℕ) : Type 0 where
   pub step : Step
-  pub decoded : decode_of bytes ≡ D.Step step
+  pub decoded : decode_of bytes ≡ Some step
   pub usable_book : usable b ≡ true
   pub reason : reason_of b step ≡ 0
   pub answer : record_answer b bytes ≡ record { reason = 0; number = number_given b step }

@@ -1,11 +1,9 @@
 -- The settlement desk's first question: for any quantity in the ledger, which step put it there, and could anything else have. Three kinds put the
 -- quantity of an allocation (`puts`). Its origin in a run is the last record that did (`origin_of`), and `Origin` says that this record put the very
 -- quantity that the ledger now has, and that none after it put or altered one. Assumes nothing.
-use Rattle.std.specs.Prelude.{◌≡◌, Bool, true, false, cond, ◌&&◌, List, map, ℕ, zero, suc, ◌+◌, ◌-◌, ◌≤◌, ◌<◌, eqb, get_or}
+use Rattle.std.specs.Prelude.{◌≡◌, Bool, true, false, cond, ◌&&◌, List, map, ℕ, zero, suc, ◌+◌, ◌-◌, ◌≤◌, ◌<◌, eqb, get_or, Option, Some, None}
 use Rattle.record.specs.declared.Step.{Step}
 use Rattle.record.specs.declared.Step.TheVariants.{Open, Window, Register, Requirement, Margin, Create, Terminate, Submit, Withdraw, Accept, AskReversal, AgreeReversal, GeneratorAmends, OperatorAmends}
-use Rattle.record.specs.declared.Decoded.{Decoded}
-use Rattle.record.specs.declared.Decoded.TheVariants as D
 use Rattle.record.specs.Record.{decode_of}
 use Rattle.share.specs.Shares.{share_of}
 use Rattle.book.specs.Book.{Book, allocation}
@@ -54,9 +52,9 @@ quantity_put b (GeneratorAmends a m q t) n = q.0
 quantity_put b (OperatorAmends a t) n = cut_share b a n
 
 -- ---- a record, and a run of them: records stand at 0, 1, 2 .., as in `Run`, and the desk prints 1, 2, 3 .. for their places
-unfoldable pub decoded_puts : Book → Decoded → ℕ → Bool
-decoded_puts b (D.Step s) n = puts b s n
-decoded_puts b D.Refused n = false
+unfoldable pub decoded_puts : Book → Option Step → ℕ → Bool
+decoded_puts b (Some s) n = puts b s n
+decoded_puts b None n = false
 
 -- the record was done, and puts the quantity of allocation n
 unfoldable pub record_puts : Book → List ℕ → ℕ → Bool
@@ -84,7 +82,7 @@ pub record Origin (b : Book) (records : ℕ → List ℕ) (n m k : ℕ) : Type 0
   -- it was done, and is a step that puts the quantity of n
   pub done : (answer_at b records before).reason ≡ 0
   pub step : Step
-  pub decoded : decode_of (records before) ≡ D.Step step
+  pub decoded : decode_of (records before) ≡ Some step
   pub puts_it : puts (book_after b records before) step n ≡ true
   -- what it put is the quantity right after it, and the quantity now
   pub put : quantity_after b records n k ≡ quantity_put (book_after b records before) step n

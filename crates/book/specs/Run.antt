@@ -1,21 +1,20 @@
 -- What a record gives on a lent book, and what a run of records from a book gives: the answer to each, and the book after each. Assumes nothing.
-use Rattle.std.specs.Prelude.{Bool, cond, ◌&&◌, List, ℕ, zero, suc, ◌*◌, take, drop}
-use Rattle.record.specs.declared.Decoded.{Decoded}
-use Rattle.record.specs.declared.Decoded.TheVariants as D
+use Rattle.std.specs.Prelude.{Bool, cond, ◌&&◌, List, ℕ, zero, suc, ◌*◌, take, drop, Option, Some, None}
 use Rattle.record.specs.Record.{decode_of}
+use Rattle.record.specs.declared.Step.{Step}
 use Rattle.book.specs.declared.Answer.{Answer}
 use Rattle.book.specs.Book.{Book}
 use Rattle.book.specs.Sound.{right_lengths, sound}
 use Rattle.book.specs.Steps.{refusal, answer_of, book_of}
 
 -- 1: record not 24 bytes, kind unknown, unused field not zero
-unfoldable pub decoded_answer : Book → Decoded → Answer
-decoded_answer b (D.Step s) = answer_of b s
-decoded_answer b D.Refused = refusal 1
+unfoldable pub decoded_answer : Book → Option Step → Answer
+decoded_answer b (Some s) = answer_of b s
+decoded_answer b None = refusal 1
 
-unfoldable pub decoded_book : Book → Decoded → Book
-decoded_book b (D.Step s) = book_of b s
-decoded_book b D.Refused = b
+unfoldable pub decoded_book : Book → Option Step → Book
+decoded_book b (Some s) = book_of b s
+decoded_book b None = b
 
 -- 1: lent table of wrong length, or book not sound
 abbrev pub usable : Book → Bool

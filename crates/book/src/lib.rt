@@ -8,7 +8,7 @@ ghost use Rattle.book.specs.Book.{fresh};
 use units::{Cents, Minutes, Net, Thousandths};
 
 // A window is open when opening <= t < closing.
-#[derive(Clone, Copy)]
+#[derive(Clone, Copy, PartialEq, Eq)]
 pub struct Window {
     pub opening: Minutes,
     pub closing: Minutes,
@@ -16,7 +16,7 @@ pub struct Window {
 
 // The month; days is 0 while none is open. The widest field comes first, so that a copy has no
 // gaps.
-#[derive(Clone, Copy)]
+#[derive(Clone, Copy, PartialEq, Eq)]
 pub struct Month {
     pub price: Cents,
     pub last: Minutes,
@@ -26,21 +26,21 @@ pub struct Month {
 }
 
 // The margin figure of a participant, and its net when the figure was stored.
-#[derive(Clone, Copy)]
+#[derive(Clone, Copy, PartialEq, Eq)]
 pub struct Margin {
     pub figure: Cents,
     pub net: Net,
 }
 
 // A participant's account; roles is 0 while it is not registered, 1 generator, 2 customer, 3 both.
-#[derive(Clone, Copy)]
+#[derive(Clone, Copy, PartialEq, Eq)]
 pub struct Account {
     pub roles: u8,
     pub requirement: Thousandths,
     pub margin: Margin,
 }
 
-#[derive(Clone, Copy)]
+#[derive(Clone, Copy, PartialEq, Eq)]
 pub enum Status {
     Empty,
     Submitted,
@@ -51,7 +51,7 @@ pub enum Status {
 }
 
 // One record of the ledger.
-#[derive(Clone, Copy)]
+#[derive(Clone, Copy, PartialEq, Eq)]
 pub struct Allocation {
     pub generator: u8,
     pub customer: u8,
@@ -59,9 +59,35 @@ pub struct Allocation {
     pub status: Status,
 }
 
+// The account of nobody.
+pub const NO_ACCOUNT: Account = Account {
+    roles: 0,
+    requirement: Thousandths(0),
+    margin: Margin {
+        figure: Cents(0),
+        net: Net(0),
+    },
+};
+
+// The record of no allocation.
+pub const NO_ALLOCATION: Allocation = Allocation {
+    generator: 0,
+    customer: 0,
+    quantity: Thousandths(0),
+    status: Status::Empty,
+};
+
+// A book that is held whole, but for its levels, which are lent beside it.
+#[derive(Clone, Copy, PartialEq, Eq)]
+pub struct Whole {
+    pub month: Month,
+    pub accounts: [Account; 32],
+    pub ledger: [Allocation; 256],
+}
+
 // The answer to a record: the reason, or 0 where it is done, and the number given, 0 but for a done
 // SUBMIT.
-#[derive(Clone, Copy)]
+#[derive(Clone, Copy, PartialEq, Eq)]
 pub struct Answer {
     pub reason: u8,
     pub number: u16,
@@ -88,15 +114,7 @@ pub fn fresh_month() -> Month
 pub fn fresh_accounts() -> [Account; 32]
     ensures { result ≡ fresh.accounts }
 {
-    let a = Account {
-        roles: 0,
-        requirement: Thousandths(0),
-        margin: Margin {
-            figure: Cents(0),
-            net: Net(0),
-        },
-    };
-    [a; 32]
+    [NO_ACCOUNT; 32]
 }
 
 // No credits.
@@ -110,11 +128,16 @@ pub fn fresh_levels() -> [u32; 3968]
 pub fn fresh_ledger() -> [Allocation; 256]
     ensures { result ≡ fresh.ledger }
 {
-    let l = Allocation {
-        generator: 0,
-        customer: 0,
-        quantity: Thousandths(0),
-        status: Status::Empty,
-    };
-    [l; 256]
+    [NO_ALLOCATION; 256]
+}
+
+// The fresh book, but for its levels.
+pub fn fresh_whole() -> Whole
+    ensures { result ≡ record { month = fresh.month; accounts = fresh.accounts; ledger = fresh.ledger } }
+{
+    Whole {
+        month: fresh_month(),
+        accounts: fresh_accounts(),
+        ledger: fresh_ledger(),
+    }
 }

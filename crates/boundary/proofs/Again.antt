@@ -1,6 +1,6 @@
 -- What is written can be lent again. The numbers of a book that code has are readable (`reads_again`), and are read as that book (`same_book`): each number
 -- stands where it is looked for, and its field can hold it (`holds`). Assumes nothing.
-use mathlib.Core.Path.{◌≡◌, refl, ap, ◌∙◌}
+use mathlib.Core.Path.{◌≡◌, refl, sym, ap, ◌∙◌}
 use mathlib.Core.Bool.{true}
 use mathlib.Core.List.{List, [], ◌∷◌, ◌++◌}
 use Prim.Native.Nat.{ℕ, ◌+◌, ◌*◌, ◌≤◌, ◌<◌}
@@ -9,6 +9,8 @@ use lib.Dec.{leb-zero}
 use lib.IntN.{ℤ, pos}
 use lib.ListN.{length, get_or, length-append, get_or-append}
 use lib.Seq.{get_or-append-add}
+use Rattle.std.specs.List.{flat_map}
+use Rattle.std.proofs.lemmas.List.FromFn.{fill_by_all}
 use borrow.Author.Tests.{le-leb, eq-eqb}
 use Rattle.units.specs.Capped.{most_thousandths}
 use Rattle.book.specs.declared.Window.{Window}
@@ -20,12 +22,12 @@ use Rattle.book.specs.declared.Status.TheVariants.{Empty, Submitted, Withdrawn, 
 use Rattle.book.specs.Book.{no_window, no_account, no_allocation, participants, most_given, status_number}
 use Rattle.book.proofs.Tests.{both, to_each}
 use Rattle.sound.specs.Check.{book_from}
-use Rattle.boundary.specs.Numbers.{book_places, account_place, record_place, tabled, flat, month_numbers, account_numbers, asked_number, allocation_numbers, numbers_of, number_at, counted, most_byte, most_number, most_status, minutes_in, month_in, account_at, status_of, allocation_at, accounts_in, ledger_in, book_in}
-use Rattle.boundary.specs.Readable.{fits_to, fits_minute, month_reads, account_reads, asked_reads, allocation_reads, accounts_read, ledger_reads, readable}
+use Rattle.boundary.specs.Numbers.{book_places, account_place, record_place, month_numbers, account_numbers, asked_number, allocation_numbers, numbers_of, number_at, counted, most_byte, most_number, most_status, minutes_in, month_in, account_at, status_of, allocation_at, accounts_in, ledger_in, book_in}
+use Rattle.boundary.specs.Readable.{fits_to, fits_minute, window_fits, month_reads, account_reads, asked_reads, allocation_reads, accounts_read, ledger_reads, readable}
 use Rattle.boundary.specs.Lent.{Holds}
 use Rattle.boundary.specs.Fitting.{WindowFits, BookFits}
 use Rattle.boundary.proofs.Held.{minute_back}
-use Rattle.boundary.proofs.Runs.{flat-length, flat-at, tabled_same, tabled_all}
+use Rattle.boundary.proofs.Runs.{flat_length, flat_at, tabled_all}
 
 -- ---- one number
 fits_to_lem : (most n : ℕ) → n ≤ most → fits_to most (pos n) ≡ true
@@ -70,40 +72,40 @@ module _ (m : Month) (accounts : List Account) (ledger : List Allocation) (f : B
   abbrev ns : List ℤ
   ns = numbers_of m accounts ledger
 
-  middle_long : length (flat account_numbers accounts) ≡ 128
-  middle_long = flat-length account_numbers 4 (λ a. refl) accounts ∙ ap (λ n. n * 4) f.accounts_long
+  middle_long : length (flat_map account_numbers accounts) ≡ 128
+  middle_long = flat_length account_numbers 4 (λ a. refl) accounts ∙ ap (λ n. n * 4) f.accounts_long
 
   all_long : length ns ≡ book_places
   unfolding numbers_of
   all_long =
-      length-append (month_numbers m) (flat account_numbers accounts ++ flat allocation_numbers ledger)
+      length-append (month_numbers m) (flat_map account_numbers accounts ++ flat_map allocation_numbers ledger)
       ∙ ap (λ n. 12 + n)
-      (length-append (flat account_numbers accounts) (flat allocation_numbers ledger)
-      ∙ (λ i. middle_long i + (flat-length allocation_numbers 5 (λ a. refl) ledger ∙ ap (λ n. n * 5) f.ledger_long) i))
+      (length-append (flat_map account_numbers accounts) (flat_map allocation_numbers ledger)
+      ∙ (λ i. middle_long i + (flat_length allocation_numbers 5 (λ a. refl) ledger ∙ ap (λ n. n * 5) f.ledger_long) i))
 
   account_number : (p j k : ℕ) → p < participants → j < 4 → k ≡ account_place p + j → number_at ns k ≡ number_at (account_numbers (get_or accounts p no_account)) j
   unfolding numbers_of
   account_number p j k o b e =
-      let middle = flat account_numbers accounts in
+      let middle = flat_map account_numbers accounts in
       let place : k ≡ 12 + (p * 4 + j) = omega (arith, e) in
       ap (number_at ns) place
-      ∙ get_or-append-add (month_numbers m) (middle ++ flat allocation_numbers ledger) (p * 4 + j) (pos 0)
-      ∙ get_or-append middle (flat allocation_numbers ledger) (pos 0) (p * 4 + j) (omega (arith, middle_long))
-      ∙ flat-at account_numbers 4 (λ a. refl) no_account (pos 0) accounts p j (omega (arith, f.accounts_long)) b
+      ∙ get_or-append-add (month_numbers m) (middle ++ flat_map allocation_numbers ledger) (p * 4 + j) (pos 0)
+      ∙ get_or-append middle (flat_map allocation_numbers ledger) (pos 0) (p * 4 + j) (omega (arith, middle_long))
+      ∙ flat_at account_numbers 4 (λ a. refl) no_account (pos 0) accounts p j (omega (arith, f.accounts_long)) b
 
   record_number : (i j k : ℕ) → i < most_given → j < 5 → k ≡ record_place i + j → number_at ns k ≡ number_at (allocation_numbers (get_or ledger i no_allocation)) j
   unfolding numbers_of
   record_number i j k o b e =
-      let middle = flat account_numbers accounts in
+      let middle = flat_map account_numbers accounts in
       let place : k ≡ 12 + (length middle + (i * 5 + j)) = omega (arith, e, middle_long) in
       ap (number_at ns) place
-      ∙ get_or-append-add (month_numbers m) (middle ++ flat allocation_numbers ledger) (length middle + (i * 5 + j)) (pos 0)
-      ∙ get_or-append-add middle (flat allocation_numbers ledger) (i * 5 + j) (pos 0)
-      ∙ flat-at allocation_numbers 5 (λ a. refl) no_allocation (pos 0) ledger i j (omega (arith, f.ledger_long)) b
+      ∙ get_or-append-add (month_numbers m) (middle ++ flat_map allocation_numbers ledger) (length middle + (i * 5 + j)) (pos 0)
+      ∙ get_or-append-add middle (flat_map allocation_numbers ledger) (i * 5 + j) (pos 0)
+      ∙ flat_at allocation_numbers 5 (λ a. refl) no_allocation (pos 0) ledger i j (omega (arith, f.ledger_long)) b
 
   -- ---- they are readable
   month_reads_lem : month_reads ns ≡ true
-  unfolding month_reads numbers_of
+  unfolding month_reads window_fits numbers_of
   month_reads_lem =
       let h = f.month_fits in
       both _ _ (fits_to_lem most_byte m.days h.head.days_low)
@@ -144,11 +146,11 @@ module _ (m : Month) (accounts : List Account) (ledger : List Allocation) (f : B
 
   -- ---- and are read as the book
   windows_are : (month_in ns).windows ≡ m.windows
-  unfolding numbers_of tabled
+  unfolding numbers_of
   windows_are =
       let h = f.month_fits in
       (λ i. window_is _ h.first i ∷ window_is _ h.second i ∷ window_is _ h.third i ∷ window_is _ h.fourth i ∷ [])
-      ∙ tabled_all m.windows no_window 4 f.windows_long
+      ∙ tabled_all m.windows no_window 4 f.month_fits.windows_long
 
   month_is : month_in ns ≡ m
   unfolding numbers_of
@@ -193,9 +195,9 @@ module _ (m : Month) (accounts : List Account) (ledger : List Allocation) (f : B
   unfolding accounts_in ledger_in
   same_book lv = λ k. record {
     month = month_is k;
-    accounts = (tabled_same _ _ participants account_is ∙ tabled_all accounts no_account participants f.accounts_long) k;
+    accounts = sym (fill_by_all _ accounts participants no_account f.accounts_long (λ p o. sym (account_is p o))) k;
     levels = lv;
-    ledger = (tabled_same _ _ most_given record_is ∙ tabled_all ledger no_allocation most_given f.ledger_long) k;
+    ledger = sym (fill_by_all _ ledger most_given no_allocation f.ledger_long (λ i o. sym (record_is i o))) k;
   }
 
   -- numbers that were written

@@ -21,7 +21,7 @@ use Rattle.book.specs.Run.{usable, decoded_answer, decoded_book, record_answer, 
 use Rattle.sound.specs.Check.{book_from}
 use Rattle.ledger.specs.Running as ledger
 use Rattle.ledger.specs.Running.{written, answered}
-use Rattle.ledger.proofs.Running.{refused_all}
+use Rattle.ledger.proofs.Running.{filled, runs_unusable}
 use Rattle.boundary.specs.Numbers.{numbers_of, book_in}
 use Rattle.boundary.specs.Readable.{readable}
 use Rattle.boundary.specs.Lent.{numbers_from, word, Steps, Does, Runs}
@@ -68,11 +68,11 @@ unsound lv = and-false (right_lengths (day_book lv))
 pub refused : (lv history room : List ℕ) {m : Month} {n : ℕ} {accounts : List Account} {lv' : List ℕ} {entries : List Allocation} {room' : List ℕ}
     → ledger.Runs (day_book lv) history room m n accounts lv' entries room' → Refuses lv history room n lv' room'
 refused lv history room {n = n} r =
-    let stays = refused_all (day_book lv) (unsound lv) history room n (written (λ i. 1) n room) refl in
+    let stays = runs_unusable (day_book lv) (unsound lv) history room n r.records_are in
     record {
       records_are = r.records_are;
-      levels_are = r.does.levels_are ∙ sym stays.levels_are;
-      answers_are = r.does.answers_are ∙ sym stays.answers_are;
+      levels_are = r.does.levels_are ∙ sym stays.does.levels_are;
+      answers_are = r.does.answers_are ∙ sym stays.does.answers_are ∙ filled 1 n room (omega (arith, r.records_are));
     }
 
 -- ---- one record

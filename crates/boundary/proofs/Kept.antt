@@ -9,7 +9,7 @@ use Prim.Native.Nat.{ℕ, zero, suc, ◌≤◌, ◌<◌}
 use native.Mathlib.Decide.{ℕ_discrete}
 use native.Mathlib.Omega.{arith}
 use lib.IntN.{ℤ}
-use lib.ListN.{length, get_or}
+use lib.ListN.{length, length-set, get_or}
 use lib.Seq.{get_or-set_same, get_or-set_other}
 use borrow.Author.Tests.{ne_eqb}
 use Rattle.book.specs.Book.{Book}
@@ -17,8 +17,7 @@ use Rattle.book.specs.Run.{record_answer, record_book, records_of, book_after, a
 use Rattle.book.specs.Frame.{Done, Refused}
 use Rattle.book.proofs.Frame.{recorded}
 use Rattle.ledger.specs.Running.{reason_in, written}
-use Rattle.ledger.proofs.Running.{written_long}
-use Rattle.boundary.specs.Numbers.{flat, book_in}
+use Rattle.boundary.specs.Numbers.{book_in}
 use Rattle.boundary.specs.Readable.{readable}
 use Rattle.boundary.specs.Lent.{numbers_from, word, lent_reason, Steps, Runs, Settles}
 use Rattle.boundary.proofs.Whole.{back}
@@ -38,6 +37,11 @@ kept {ns} {ns'} {lv} {lv'} {bytes} s n = by (readable ns) refl
     by false h = (rw h at s.book_is, rw h at s.levels_are)
 
 -- ---- a history
+written_long : (words : ℕ → ℕ) (n : ℕ) (room : List ℕ) → length (written words n room) ≡ length room
+unfolding written
+written_long words zero room = refl
+written_long words (suc n) room = length-set (written words n room) n (words n) ∙ written_long words n room
+
 -- an answer that is written is read again
 written_at : (words : ℕ → ℕ) (n : ℕ) (room : List ℕ) → n ≤ length room → (i : ℕ) → i < n → get_or (written words n room) i 0 ≡ words i
 unfolding written
@@ -71,5 +75,4 @@ kept_run {ns} {ns'} {lv} {lv'} {history} {room} {room'} {r} s n = by (readable n
 
 -- ---- settlement
 pub kept_room : {ns : List ℤ} {lv room room' : List ℕ} {r : ℕ} → Settles ns lv room r room' → lent_reason ns lv room ≢ 0 → room' ≡ room
-unfolding flat
 kept_room {ns} {lv} {room} s n = rw (ne_eqb (lent_reason ns lv room) 0 n) at s.figures_are

@@ -1,6 +1,8 @@
 pub mod Held
+pub mod Puts
 pub mod Runs
 pub mod Whole
+pub mod Said
 pub mod Again
 pub mod Handed
 pub mod Listed

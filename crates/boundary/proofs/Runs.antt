@@ -1,146 +1,100 @@
--- Tables and runs of numbers, one entry in a turn. A table that is filled from the front is `tabled` so far (`Filled`), and the numbers of entries that are
--- written one after the other are those of the entries so far (`put_more`). A list that is read number by number is
--- itself (`tabled_all`), and read entry by entry it is the numbers of the entries (`flat-tabled`). Each by recursion on a list or a length. Assumes nothing.
-use mathlib.Core.Path.{◌≡◌, refl, sym, ap, ◌∙◌}
-use mathlib.Core.List.{List, [], ◌∷◌, ◌++◌, map, append_assoc, append-nil}
-use Prim.Native.Nat.{ℕ, zero, suc, ◌+◌, ◌*◌, ◌≤◌, ◌<◌}
-use native.Mathlib.Nat.{add-zero, add-suc, suc-add}
-use native.Mathlib.Numerals.{add-one}
-use native.Mathlib.Omega.{arith}
-use lib.ListN.{length, get_or, set, take, drop, length-set, length-append, length-map, get_or-append, drop_of_length-le}
-use lib.Seq.{get_or-append-add, sets, sets-eq, paste, paste-suc, length-paste, take-length, take-suc, take-suc-set, take_all, length-take-le}
-use Rattle.boundary.specs.Numbers.{tabled, flat}
+-- Tables and runs of numbers. The numbers of a table's entries, one after the other, are as many as the entries have, and stand where they are looked for
+-- (`flat_length`, `flat_at`); entries that are read one by one give back the numbers that they were read from (`flat_tabled`); and a list cut into chunks is
+-- read chunk by chunk as it is place by place (`chunks_map`, `chunks_all`). Each by recursion on a list or a length. Assumes nothing.
+use Rattle.std.proofs.Common.{◌≡◌, ℕ, zero, suc, ◌+◌, ◌*◌, ◌≤◌, ◌<◌, Bool, ◌&&◌, List, [], ◌∷◌, ◌++◌, length, take, drop, get_or, map, flat_map, refl, sym, ap, ◌∙◌, arith, add-one, append-nil, append_assoc, length-append}
+use Rattle.std.specs.List.{list_all}
+use Rattle.std.specs.Simd.{first_chunks}
+use Rattle.std.proofs.lemmas.List.{drop-drop, drop_all, take_all}
+use Rattle.std.proofs.Common.{length-take-le}
+use lib.ListN.{length-map, get_or-map}
+use Rattle.std.proofs.lemmas.List.Concat.{flat_map-append, get_or-flat_map}
+use Rattle.std.proofs.lemmas.List.Edits.{sets, sets-eq}
+use Rattle.std.proofs.lemmas.List.Folds.{list_all_more}
+use Rattle.std.proofs.lemmas.List.FromFn.{map-range_with_len_more, fill_by_all}
+use Rattle.book.specs.Sound.{each}
+use Rattle.boundary.specs.Numbers.{tabled}
 
--- ---- a table filled from the front
-pub record Filled {A : Type 0} (f : ℕ → A) (n i : ℕ) (l : List A) : Type 0 where
-  pub long : length l ≡ n
-  pub so_far : take i l ≡ tabled i f
+-- ---- f at 0, 1, 2 .. below n
+module _ {A : Type 0} where
+  tabled_more : (n : ℕ) (f : ℕ → A) → tabled (suc n) f ≡ tabled n f ++ (f n ∷ [])
+  tabled_more n f = ap (λ k. tabled k f) (sym (add-one n)) ∙ map-range_with_len_more f 0 n n (omega arith)
 
-module _ {A : Type 0} (f : ℕ → A) (n : ℕ) where
-  pub filled_none : {l : List A} → length l ≡ n → Filled f n 0 l
-  unfolding tabled
-  filled_none e = record { long = e; so_far = refl }
+  pub tabled-add : (m n : ℕ) (f : ℕ → A) → tabled (m + n) f ≡ tabled m f ++ tabled n (λ k. f (m + k))
+  tabled-add m zero f = let none : m + 0 ≡ m = omega arith in ap (λ k. tabled k f) none ∙ sym (append-nil (tabled m f))
+  tabled-add m (suc n) f =
+      let more : m + suc n ≡ suc (m + n) = omega arith in
+      ap (λ k. tabled k f) more
+      ∙ tabled_more (m + n) f
+      ∙ ap (λ r. r ++ (f (m + n) ∷ [])) (tabled-add m n f)
+      ∙ append_assoc (tabled m f) (tabled n (λ k. f (m + k))) (f (m + n) ∷ [])
+      ∙ ap (λ r. tabled m f ++ r) (sym (tabled_more n (λ k. f (m + k))))
 
-  pub filled_more : {i : ℕ} {l : List A} {a : A} → i < n → Filled f n i l → a ≡ f i → Filled f n (i + 1) (set l i a)
-  unfolding tabled
-  filled_more {i} {l} {a} o w e = record {
-    long = length-set l i a ∙ w.long;
-    so_far = rw (add-one, take-suc-set l i a (omega (arith, w.long)), w.so_far, e);
-  }
-
-  pub filled_all : {i : ℕ} {l : List A} → i ≤ n → n ≤ i → Filled f n i l → l ≡ tabled n f
-  filled_all {i} {l} b o w =
-      let whole : i ≡ n = omega arith in
-      sym (take_all i l (omega (arith, w.long))) ∙ w.so_far ∙ ap (λ k. tabled k f) whole
+  -- a list read place by place
+  pub tabled_all : (l : List A) (d : A) (n : ℕ) → length l ≡ n → tabled n (λ i. get_or l i d) ≡ l
+  tabled_all l d n e = sym (fill_by_all (λ i. get_or l i d) l n d e (λ k o. refl))
 
 -- ---- the numbers of entries
 module _ {A B : Type 0} (f : A → List B) where
-  pub flat_append : (l m : List A) → flat f (l ++ m) ≡ flat f l ++ flat f m
-  unfolding flat
-  flat_append [] m = refl
-  flat_append (a ∷ l) m = ap (λ r. f a ++ r) (flat_append l m) ∙ sym (append_assoc (f a) (flat f l) (flat f m))
-
-  pub flat_one : (a : A) → flat f (a ∷ []) ≡ f a
-  unfolding flat
-  flat_one a = append-nil (f a)
-
   -- so many for each entry
-  pub flat-length : (w : ℕ) → ((a : A) → length (f a) ≡ w) → (l : List A) → length (flat f l) ≡ length l * w
-  unfolding flat
-  flat-length w e [] = omega arith
-  flat-length w e (a ∷ l) = length-append (f a) (flat f l) ∙ (λ i. e a i + flat-length w e l i) ∙ omega arith
+  pub flat_length : (w : ℕ) → ((a : A) → length (f a) ≡ w) → (l : List A) → length (flat_map f l) ≡ length l * w
+  flat_length w e [] = omega arith
+  flat_length w e (a ∷ l) = length-append (f a) (flat_map f l) ∙ (λ i. e a i + flat_length w e l i) ∙ omega arith
 
--- a run of stores that goes on where another ended
-pub sets_append : {A : Type 0} (xs ys l : List A) (i : ℕ) → sets (sets l i xs) (i + length xs) ys ≡ sets l i (xs ++ ys)
-sets_append [] ys l i = ap (λ k. sets l k ys) (add-zero i)
-sets_append (a ∷ xs) ys l i =
-    ap (λ k. sets (sets l i (a ∷ xs)) k ys) (add-suc i (length xs) ∙ sym (suc-add i (length xs))) ∙ sets_append xs ys (set l i a) (suc i)
+  -- number j of entry p
+  pub flat_at : (w : ℕ) → ((a : A) → length (f a) ≡ w) → (d : A) (e : B) (l : List A) (p j : ℕ) → p < length l → j < w
+      → get_or (flat_map f l) (p * w + j) e ≡ get_or (f (get_or l p d)) j e
+  flat_at w long d e l p j o b =
+      let before : p * w ≡ length (flat_map f (take p l)) = sym (flat_length w long (take p l) ∙ ap (λ k. k * w) (length-take-le p l (omega arith))) in
+      ap (λ k. get_or (flat_map f l) (k + j) e) before ∙ get_or-flat_map f l p j d e o (omega (arith, long (get_or l p d)))
 
--- no numbers are stored yet
-pub put_none : {A B : Type 0} (f : A → List B) (from : ℕ) (l : List B) (entries : List A) → l ≡ sets l from (flat f (take 0 entries))
-unfolding flat
-put_none f from l entries = refl
-
--- the numbers of entry i, stored after those of the entries before it
-pub put_more : {A B : Type 0} (f : A → List B) (w : ℕ) → ((a : A) → length (f a) ≡ w) → (d : A) (entries : List A) (from : ℕ) (l : List B) (i : ℕ) → i < length entries
-    → sets (sets l from (flat f (take i entries))) (from + i * w) (f (get_or entries i d)) ≡ sets l from (flat f (take (i + 1) entries))
-put_more f w e d entries from l i o =
-    let so_far = flat f (take i entries) in
-    let place : from + i * w ≡ from + length so_far = omega (arith, flat-length f w e (take i entries) ∙ ap (λ k. k * w) (length-take-le i entries (omega arith))) in
-    ap (λ k. sets (sets l from so_far) k (f (get_or entries i d))) place
-    ∙ sets_append so_far (f (get_or entries i d)) l from
-    ∙ ap (sets l from)
-    (ap (λ r. so_far ++ r) (sym (flat_one f (get_or entries i d)))
-    ∙ sym (flat_append f (take i entries) (get_or entries i d ∷ []))
-    ∙ ap (flat f) (sym (take-suc entries i d o) ∙ ap (λ k. take k entries) (sym (add-one i))))
+  -- entries of w numbers each, read one by one
+  pub flat_tabled : (g : ℕ → A) (h : ℕ → B) (w n : ℕ) → ((p : ℕ) → p < n → f (g p) ≡ tabled w (λ k. h (p * w + k))) → flat_map f (tabled n g) ≡ tabled (n * w) h
+  flat_tabled g h w zero e = let none : zero ≡ zero * w = omega arith in ap (λ k. tabled k h) none
+  flat_tabled g h w (suc n) e =
+      let more : n * w + w ≡ suc n * w = omega arith in
+      ap (flat_map f) (tabled_more n g)
+      ∙ flat_map-append f (tabled n g) (g n ∷ [])
+      ∙ (λ i. flat_tabled g h w n (λ p o. e p (omega arith)) i ++ (append-nil (f (g n)) ∙ e n (omega arith)) i)
+      ∙ sym (tabled-add (n * w) w h)
+      ∙ ap (λ k. tabled k h) more
 
 -- stores over a whole list
 pub sets_all : {A : Type 0} (vs l : List A) → length vs ≡ length l → sets l 0 vs ≡ vs
 sets_all vs l e =
     sets-eq vs l 0 (omega (arith, e))
-    ∙ ap (λ r. vs ++ r) (drop_of_length-le l {i = 0 + length vs} (omega (arith, e)))
+    ∙ ap (λ r. vs ++ r) (drop_all (0 + length vs) l (omega (arith, e)))
     ∙ append-nil vs
 
--- ---- a list read place by place
-module _ {A : Type 0} where
-  pub tabled-add : (m n : ℕ) (f : ℕ → A) → tabled (m + n) f ≡ tabled m f ++ tabled n (λ k. f (m + k))
-  unfolding tabled
-  tabled-add m zero f = ap (λ k. tabled k f) (add-zero m) ∙ sym (append-nil (tabled m f))
-  tabled-add m (suc n) f =
-      ap (λ k. tabled k f) (add-suc m n)
-      ∙ ap (λ r. r ++ (f (m + n) ∷ [])) (tabled-add m n f)
-      ∙ append_assoc (tabled m f) (tabled n (λ k. f (m + k))) (f (m + n) ∷ [])
+-- ---- a list in chunks of w
+module _ {A : Type 0} (w : ℕ) where
+  chunks_long : (n : ℕ) (l : List A) → length (first_chunks w n l) ≡ n
+  chunks_long zero l = refl
+  chunks_long (suc n) l = ap suc (chunks_long n (drop w l))
 
-  pub tabled_same : (f g : ℕ → A) (n : ℕ) → ((i : ℕ) → i < n → f i ≡ g i) → tabled n f ≡ tabled n g
-  unfolding tabled
-  tabled_same f g zero h = refl
-  tabled_same f g (suc n) h = λ k. tabled_same f g n (λ i o. h i (omega arith)) k ++ (h n (omega arith) k ∷ [])
+  chunk_at : (n : ℕ) (l : List A) (p : ℕ) → p < n → get_or (first_chunks w n l) p [] ≡ take w (drop (p * w) l)
+  chunk_at zero l p o = absurd (omega arith)
+  chunk_at (suc n) l zero o = let none : 0 ≡ 0 * w = omega arith in ap (λ k. take w (drop k l)) none
+  chunk_at (suc n) l (suc p) o =
+      let more : w + p * w ≡ suc p * w = omega arith in
+      chunk_at n (drop w l) p (omega arith) ∙ ap (take w) (drop-drop (p * w) w l ∙ ap (λ k. drop k l) more)
 
-  tabled-take : (l : List A) (d : A) (n : ℕ) → n ≤ length l → tabled n (λ i. get_or l i d) ≡ take n l
-  unfolding tabled
-  tabled-take l d zero o = refl
-  tabled-take l d (suc n) o = ap (λ r. r ++ (get_or l n d ∷ [])) (tabled-take l d n (omega arith)) ∙ sym (take-suc l n d (omega arith))
+  -- what is read of each chunk, and at each place
+  module _ (n : ℕ) (l : List A) where
+    abbrev chunks : List (List A)
+    chunks = first_chunks w n l
 
-  pub tabled_all : (l : List A) (d : A) (n : ℕ) → length l ≡ n → tabled n (λ i. get_or l i d) ≡ l
-  tabled_all l d n e = tabled-take l d n (omega arith) ∙ take_all n l (omega arith)
+    pub chunks_map : {B : Type 0} (g : List A → B) (f : ℕ → B) → ((p : ℕ) → p < n → g (take w (drop (p * w) l)) ≡ f p) → map g chunks ≡ tabled n f
+    chunks_map g f h =
+        fill_by_all f (map g chunks) n (g []) (length-map chunks g ∙ chunks_long n l) (λ p o. get_or-map g chunks p [] ∙ ap g (chunk_at n l p o) ∙ h p o)
 
--- entries of w numbers each
-pub flat-tabled : {A B : Type 0} (f : A → List B) (g : ℕ → A) (h : ℕ → B) (w n : ℕ) → ((p : ℕ) → p < n → f (g p) ≡ tabled w (λ k. h (p * w + k)))
-    → flat f (tabled n g) ≡ tabled (n * w) h
-unfolding tabled flat
-flat-tabled f g h w zero e = let none : zero ≡ zero * w = omega arith in ap (λ k. tabled k h) none
-flat-tabled f g h w (suc n) e =
-    let more : n * w + w ≡ suc n * w = omega arith in
-    flat_append f (tabled n g) (g n ∷ [])
-    ∙ (λ i. flat-tabled f g h w n (λ p o. e p (omega arith)) i ++ (flat_one f (g n) ∙ e n (omega arith)) i)
-    ∙ sym (tabled-add (n * w) w h)
-    ∙ ap (λ k. tabled k h) more
+    module _ (g : List A → Bool) (f : ℕ → Bool) (h : (p : ℕ) → p < n → g (take w (drop (p * w) l)) ≡ f p) where
+      below : (m : ℕ) → m ≤ n → list_all g (take m chunks) ≡ each m f
+      unfolding each
+      below zero o = refl
+      below (suc m) o =
+          ap (λ k. list_all g (take k chunks)) (sym (add-one m))
+          ∙ list_all_more g chunks m [] (omega (arith, chunks_long n l))
+          ∙ (λ i. below m (omega arith) i && (ap g (chunk_at n l m (omega arith)) ∙ h m (omega arith)) i)
 
--- ---- numbers copied to a place, one in a turn
-module _ {A : Type 0} (d : List A) (at : ℕ) (s : List A) (room : at + length s ≤ length d) where
-  pub paste_same : (i : ℕ) {l : List A} → i ≤ length s → l ≡ paste d at s i → length l ≡ length d
-  paste_same i b e = ap length e ∙ length-paste d at s i (omega arith) b
-
-  pub paste_more : (i : ℕ) (z : A) {l : List A} → i < length s → l ≡ paste d at s i → set l (at + i) (get_or s i z) ≡ paste d at s (i + 1)
-  paste_more i z b e = rw (e, add-one) (paste-suc d at s i z (omega arith) b)
-
-  pub paste_all : (i : ℕ) {l : List A} → i ≤ length s → length s ≤ i → l ≡ paste d at s i → l ≡ sets d at s
-  paste_all i b o e =
-      let whole : i ≡ length s = omega arith in
-      e ∙ ap (paste d at s) whole ∙ ap (λ r. take at d ++ r ++ drop (at + length s) d) (take-length s) ∙ sym (sets-eq s d at room)
-
--- ---- the numbers of an entry, where they stand
-pub flat-at : {A B : Type 0} (f : A → List B) (w : ℕ) → ((a : A) → length (f a) ≡ w) → (d : A) (e : B) (l : List A) (p j : ℕ) → p < length l → j < w
-    → get_or (flat f l) (p * w + j) e ≡ get_or (f (get_or l p d)) j e
-unfolding flat
-flat-at f w long d e [] p j o b = absurd (omega arith)
-flat-at f w long d e (a ∷ l) zero j o b =
-    let place : 0 * w + j ≡ j = omega arith in
-    ap (λ k. get_or (f a ++ flat f l) k e) place ∙ get_or-append (f a) (flat f l) e j (omega (arith, long a))
-flat-at f w long d e (a ∷ l) (suc p) j o b =
-    let place : suc p * w + j ≡ length (f a) + (p * w + j) = omega (arith, long a) in
-    ap (λ k. get_or (f a ++ flat f l) k e) place ∙ get_or-append-add (f a) (flat f l) (p * w + j) e ∙ flat-at f w long d e l p j (omega arith) b
-
--- a table as the machine holds it is as long as the table
-pub table_long : (X Y : Type 0) (f : X → Y) (l : List X) (n : ℕ) → length (map f l) ≡ n → length l ≡ n
-table_long X Y f l n h = sym (length-map l f) ∙ h
+      pub chunks_all : list_all g chunks ≡ each n f
+      chunks_all = ap (list_all g) (sym (take_all n chunks (omega (arith, chunks_long n l)))) ∙ below n (omega arith)

@@ -22,6 +22,7 @@ pub record HeadFits (m : Month) : Type 0 where
 
 pub record MonthFits (m : Month) : Type 0 where
   pub head : HeadFits m
+  pub windows_long : length m.windows ≡ 4
   pub first : WindowFits (get_or m.windows 0 no_window)
   pub second : WindowFits (get_or m.windows 1 no_window)
   pub third : WindowFits (get_or m.windows 2 no_window)
@@ -47,7 +48,6 @@ LedgerFits ledger n = (i : ℕ) → i < n → AllocationFits (get_or ledger i no
 -- a whole book, but for its levels
 pub record BookFits (m : Month) (accounts : List Account) (ledger : List Allocation) : Type 0 where
   pub month_fits : MonthFits m
-  pub windows_long : length m.windows ≡ 4
   pub accounts_long : length accounts ≡ participants
   pub accounts_fit : AccountsFit accounts participants
   pub ledger_long : length ledger ≡ most_given

@@ -1,6 +1,6 @@
 -- What each call of the boundary answers and leaves, for every lent book, record, history and room, of any length: document 01's answer, and its book as
 -- numbers, which can be lent again as that book. A book that is not readable, or not sound, answers 1 and stays as it is. Assumes nothing.
-use Rattle.std.specs.Prelude.{Bool, true, cond, ◌&&◌, List, [], ◌∷◌, ◌≡◌, ℕ, eqb, ℤ, length}
+use Rattle.std.specs.Prelude.{Bool, true, cond, ◌&&◌, List, [], ◌∷◌, ◌≡◌, ℕ, eqb, ℤ, length, flat_map}
 use Rattle.std.proofs.lemmas.List.Edits.{sets}
 use Rattle.book.specs.Book.{Book, fresh, level_places}
 use Rattle.book.specs.declared.Answer.{Answer}
@@ -8,7 +8,7 @@ use Rattle.book.specs.Steps.{refusal}
 use Rattle.book.specs.Settlement.{Figures, settlement_reason, settlement}
 use Rattle.book.specs.Run.{record_answer, record_book, records_of, book_after}
 use Rattle.ledger.specs.Running.{turns_of, word_of, written, answered}
-use Rattle.boundary.specs.Numbers.{book_places, flat, numbers_of, book_in}
+use Rattle.boundary.specs.Numbers.{book_places, numbers_of, book_in}
 use Rattle.boundary.specs.Readable.{readable}
 
 -- a book's numbers, all but its levels
@@ -75,4 +75,4 @@ lent_list ns lv room = cond (eqb (lent_reason ns lv room) 0) (settlement (book_i
 -- the reason, and 32 times how many are listed; their figures stand from the room's first place on, and the rest of it stays
 pub record Settles (ns : List ℤ) (lv room : List ℕ) (r : ℕ) (room' : List ℕ) : Type 0 where
   pub answer_is : r ≡ word_of (lent_reason ns lv room) (length (lent_list ns lv room))
-  pub figures_are : room' ≡ sets room 0 (flat figure_numbers (lent_list ns lv room))
+  pub figures_are : room' ≡ sets room 0 (flat_map figure_numbers (lent_list ns lv room))

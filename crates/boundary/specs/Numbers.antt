@@ -1,8 +1,9 @@
 -- A lent book as numbers at fixed places: 0 days, 1 price, 2 minute of the last step, 3 last number given, 4 to 11 the windows' ends; from 12 the 32
 -- accounts, four numbers each; from 140 the 256 records, five each. `numbers_of` lays a book out, and `book_in` reads one back from any list of numbers
 -- and any table of levels: a number that its field cannot hold, or that is not there, reads as 0. Assumes nothing.
-use Rattle.std.specs.Prelude.{Bool, cond, ◌&&◌, List, [], ◌∷◌, ◌++◌, ℕ, zero, suc, ◌+◌, ◌*◌, eqb, ℤ, pos, negsuc, nat_abs, get_or}
+use Rattle.std.specs.Prelude.{Bool, cond, ◌&&◌, List, [], ◌∷◌, ◌++◌, map, flat_map, ℕ, ◌+◌, ◌*◌, eqb, ℤ, pos, negsuc, nat_abs, get_or}
 use Rattle.std.specs.Int.Signed.{le_z}
+use Rattle.std.specs.List.{range_with_len}
 use Rattle.units.specs.Capped.{most_thousandths}
 use Rattle.units.specs.declared.Minutes.{Minutes}
 use Rattle.book.specs.declared.Window.{Window}
@@ -26,16 +27,10 @@ account_place p = 12 + p * 4
 abbrev pub record_place : ℕ → ℕ
 record_place i = 140 + i * 5
 
--- ---- a table, and its entries one after the other
+-- ---- a table, entry by entry
 -- f at 0, 1, 2 .. below n
-unfoldable pub tabled : {A : Type 0} → ℕ → (ℕ → A) → List A
-tabled zero f = []
-tabled (suc n) f = tabled n f ++ (f n ∷ [])
-
--- the numbers of each entry, in order
-unfoldable pub flat : {A B : Type 0} → (A → List B) → List A → List B
-flat f [] = []
-flat f (a ∷ l) = f a ++ flat f l
+abbrev pub tabled : {A : Type 0} → ℕ → (ℕ → A) → List A
+tabled n f = map f (range_with_len 0 n)
 
 -- ---- from a book to its numbers
 abbrev pub window_numbers : Window → List ℤ
@@ -71,7 +66,7 @@ abbrev pub allocation_numbers : Allocation → List ℤ
 allocation_numbers a = pos a.generator ∷ pos a.customer ∷ pos a.quantity.0 ∷ pos (status_number a.status) ∷ asked_number a.status ∷ []
 
 unfoldable pub numbers_of : Month → List Account → List Allocation → List ℤ
-numbers_of m accounts ledger = month_numbers m ++ (flat account_numbers accounts ++ flat allocation_numbers ledger)
+numbers_of m accounts ledger = month_numbers m ++ (flat_map account_numbers accounts ++ flat_map allocation_numbers ledger)
 
 -- ---- from numbers to a book
 abbrev pub number_at : List ℤ → ℕ → ℤ

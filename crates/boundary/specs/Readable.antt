@@ -14,8 +14,12 @@ fits_to most z = between (pos 0) (pos most) z
 abbrev pub fits_minute : ℤ → Bool
 fits_minute z = between least_minute most_minute z
 
+-- the two ends of a window
+unfoldable pub window_fits : ℤ → ℤ → Bool
+window_fits opening closing = fits_minute opening && fits_minute closing
+
 abbrev pub window_reads : List ℤ → ℕ → Bool
-window_reads ns i = fits_minute (number_at ns i) && fits_minute (number_at ns (i + 1))
+window_reads ns i = window_fits (number_at ns i) (number_at ns (i + 1))
 
 unfoldable pub month_reads : List ℤ → Bool
 month_reads ns =

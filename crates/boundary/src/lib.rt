@@ -7,22 +7,20 @@
 ghost use Rattle.boundary.specs.Lent.{Freshens, Steps, Runs, Settles};
 
 use crate::calls::run;
-use crate::figures::{FIGURE_PLACES, write_settlement};
-use crate::levels::clear;
-use crate::readable::{BOOK_PLACES, is_readable};
-use crate::reading::{accounts_in, ledger_in, month_in};
+use crate::reading::{BOOK_PLACES, whole_in};
+use crate::tables::write_table;
 use crate::writing::write_book;
-use book::{fresh_accounts, fresh_ledger, fresh_month};
-use reasons::both;
+use book::fresh_whole;
 use settlement::settle_whole;
 
 mod calls; // calls.rt: a history on a lent book
-mod fields; // fields.rt: one number of a lent book
 mod figures; // figures.rt: the figures of a settlement as numbers
-mod levels; // levels.rt: the levels of the fresh book
-mod readable; // readable.rt: whether lent numbers are a book's
 mod reading; // reading.rt: a book read from its numbers
+mod tables; // tables.rt: tables of values in lent memory
 mod writing; // writing.rt: a book written back as its numbers
+
+// How many numbers a room for figures has.
+const FIGURE_PLACES: usize = 288;
 
 // The bytes of a record.
 const RECORD_BYTES: usize = 24;
@@ -34,13 +32,12 @@ const LEVEL_PLACES: usize = 3968;
 pub fn rionvakhe_fresh(book: &mut [i64], levels: &mut [u32]) -> u64
     ensures { Freshens book.old levels.old result book.new levels.new }
 {
-    if both(book.len() == BOOK_PLACES, levels.len() == LEVEL_PLACES) {
-        write_book(book, fresh_month(), fresh_accounts(), fresh_ledger());
-        clear(levels);
-        0
-    } else {
-        1
+    if book.len() != BOOK_PLACES || levels.len() != LEVEL_PLACES {
+        return 1;
     }
+    write_book(book, &fresh_whole());
+    levels.fill(0);
+    0
 }
 
 // One record on a lent book: the reason, or 0 where it is done, and 32 times the number given.
@@ -72,12 +69,17 @@ pub fn rionvakhe_run(
 pub fn rionvakhe_settle(book: &[i64], levels: &[u32], figures: &mut [u64]) -> u64
     ensures { Settles book.now levels.now figures.old result figures.new }
 {
-    if both(is_readable(book), figures.len() == FIGURE_PLACES) {
-        let month = month_in(book);
-        let s = settle_whole(month, accounts_in(book), levels, ledger_in(book));
-        write_settlement(figures, s);
-        s.reason as u64 + 32 * s.count as u64
-    } else {
-        1
+    let Some(whole) = whole_in(book) else {
+        return 1;
+    };
+    if figures.len() != FIGURE_PLACES {
+        return 1;
+    }
+    match settle_whole(&whole, levels) {
+        Ok(list) => {
+            write_table(figures, 0, list.figures());
+            32 * list.count as u64
+        }
+        Err(reason) => u8::from(reason) as u64,
     }
 }

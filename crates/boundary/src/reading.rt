@@ -1,112 +1,121 @@
-// A lent book read from its numbers, part by part and by value.
-ghost use Rattle.std.specs.Prelude.{◌≡◌, ◌<◌};
-ghost use Rattle.boundary.specs.Numbers.{book_places, window_at, month_in, account_at, status_of, allocation_at, accounts_in, ledger_in};
+// A lent book read from its numbers: each part from its own, or none where a field cannot hold its
+// number.
+ghost use Rattle.std.specs.Prelude.{◌≡◌, Some, None, cond};
+ghost use Rattle.units.specs.Capped.{most_thousandths};
+ghost use Rattle.boundary.specs.Numbers.{counted, minutes_in, most_byte, month_in, account_at, allocation_at};
+ghost use Rattle.boundary.specs.Readable.{fits_to, fits_minute, window_fits, month_reads, account_reads, allocation_reads, readable};
+ghost use Rattle.boundary.specs.Inner.{whole_said, window_said, status_said, status_fits};
 
-use crate::fields::{counted_at, minutes_at, number_at};
-use book::{Account, Allocation, Margin, Month, Status, Window, fresh_accounts, fresh_ledger};
+use crate::tables::{Readable, read_table};
+use book::{Account, Allocation, Margin, Month, Status, Whole, Window, fresh_whole};
 use units::{Cents, Minutes, Net, Thousandths};
 
-// What each field holds at most.
-pub const MOST_BYTE: u32 = 255;
+// How many numbers a lent book has: 12 for the month, 4 for each of 32 accounts, 5 for each of 256
+// records.
+pub const BOOK_PLACES: usize = 1420;
 
-pub const MOST_NUMBER: u32 = 65_535;
-
-pub const MOST_THOUSANDTHS: u32 = 4_294_967_295;
-
-pub const MOST_STATUS: u32 = 5;
-
-// A window, whose two ends stand from a place on.
-fn window_at(book: &[i64], at: usize) -> Window
-    requires { at < book_places }
-    ensures { result ≡ window_at book.now at }
+// A minute, or none where the number is no minute.
+fn minutes_of(number: i64) -> Option<Minutes>
+    ensures { result ≡ cond (fits_minute number) (Some (minutes_in number)) None }
 {
-    Window {
-        opening: minutes_at(book, at),
-        closing: minutes_at(book, at + 1),
+    Some(Minutes(i32::try_from(number).ok()?))
+}
+
+#[tactic(auto, unfolding(crate::specs::Readable::window_fits))]
+fn window_of(opening: i64, closing: i64) -> Option<Window>
+    ensures { result ≡ cond (window_fits opening closing) (Some (window_said opening closing)) None }
+{
+    Some(Window {
+        opening: minutes_of(opening)?,
+        closing: minutes_of(closing)?,
+    })
+}
+
+// The status of a number, which is how C says it; REVERSAL ASKED alone keeps the minute of the asking.
+fn status_of(number: i64, asked: i64) -> Option<Status>
+    ensures { result ≡ cond (status_fits number asked) (Some (status_said number asked)) None }
+{
+    match (number, asked) {
+        (0, 0) => Some(Status::Empty),
+        (1, 0) => Some(Status::Submitted),
+        (2, 0) => Some(Status::Withdrawn),
+        (3, 0) => Some(Status::Accepted),
+        (4, _) => Some(Status::ReversalAsked(minutes_of(asked)?)),
+        (5, 0) => Some(Status::Reversed),
+        _ => None,
     }
 }
 
-pub fn month_in(book: &[i64]) -> Month
-    ensures { result ≡ month_in book.now }
-{
-    Month {
-        days: counted_at(book, 0, MOST_BYTE) as u8,
-        price: Cents(number_at(book, 1)),
-        last: minutes_at(book, 2),
-        given: counted_at(book, 3, MOST_NUMBER) as u16,
-        windows: [
-            window_at(book, 4),
-            window_at(book, 6),
-            window_at(book, 8),
-            window_at(book, 10),
-        ],
+impl Readable<12> for Month {
+    ghost reads = { month_reads };
+
+    ghost said = { month_in };
+
+    #[tactic(auto, unfolding(crate::specs::Readable::month_reads))]
+    fn read(numbers: &[i64; 12]) -> Option<Month> {
+        let [days, price, last, given, a, b, c, d, e, f, g, h] = *numbers;
+        Some(Month {
+            days: u8::try_from(days).ok()?,
+            price: Cents(price),
+            last: minutes_of(last)?,
+            given: u16::try_from(given).ok()?,
+            windows: [
+                window_of(a, b)?,
+                window_of(c, d)?,
+                window_of(e, f)?,
+                window_of(g, h)?,
+            ],
+        })
     }
 }
 
-// An account, whose four numbers stand from a place on.
-fn account_at(book: &[i64], at: usize) -> Account
-    requires { at < book_places }
-    ensures { result ≡ account_at book.now at }
-{
-    Account {
-        roles: counted_at(book, at, MOST_BYTE) as u8,
-        requirement: Thousandths(counted_at(book, at + 1, MOST_THOUSANDTHS)),
-        margin: Margin {
-            figure: Cents(number_at(book, at + 2)),
-            net: Net(number_at(book, at + 3)),
-        },
+impl Readable<4> for Account {
+    ghost reads = { λ ns. account_reads ns 0 };
+
+    ghost said = { λ ns. account_at ns 0 };
+
+    #[tactic(auto, unfolding(crate::specs::Readable::account_reads))]
+    fn read(numbers: &[i64; 4]) -> Option<Account> {
+        let [roles, requirement, figure, net] = *numbers;
+        Some(Account {
+            roles: u8::try_from(roles).ok()?,
+            requirement: Thousandths(u32::try_from(requirement).ok()?),
+            margin: Margin {
+                figure: Cents(figure),
+                net: Net(net),
+            },
+        })
     }
 }
 
-// The status of a number; REVERSAL ASKED keeps the minute.
-fn status_of(number: u32, asked: Minutes) -> Status
-    ensures { result ≡ status_of number asked }
-{
-    match number {
-        1 => Status::Submitted,
-        2 => Status::Withdrawn,
-        3 => Status::Accepted,
-        4 => Status::ReversalAsked(asked),
-        5 => Status::Reversed,
-        _ => Status::Empty,
+impl Readable<5> for Allocation {
+    ghost reads = { λ ns. allocation_reads ns 0 };
+
+    ghost said = { λ ns. allocation_at ns 0 };
+
+    #[tactic(auto, unfolding(crate::specs::Readable::allocation_reads))]
+    fn read(numbers: &[i64; 5]) -> Option<Allocation> {
+        let [generator, customer, quantity, status, asked] = *numbers;
+        Some(Allocation {
+            generator: u8::try_from(generator).ok()?,
+            customer: u8::try_from(customer).ok()?,
+            quantity: Thousandths(u32::try_from(quantity).ok()?),
+            status: status_of(status, asked)?,
+        })
     }
 }
 
-// A record of the ledger, whose five numbers stand from a place on.
-fn allocation_at(book: &[i64], at: usize) -> Allocation
-    requires { at < book_places }
-    ensures { result ≡ allocation_at book.now at }
+// The book that lent numbers are, but for its levels; none where they are no book's.
+pub fn whole_in(book: &[i64]) -> Option<Whole>
+    ensures { result ≡ cond (readable book.now) (Some (whole_said book.now)) None }
 {
-    let number = counted_at(book, at + 3, MOST_STATUS);
-    let asked = minutes_at(book, at + 4);
-    Allocation {
-        generator: counted_at(book, at, MOST_BYTE) as u8,
-        customer: counted_at(book, at + 1, MOST_BYTE) as u8,
-        quantity: Thousandths(counted_at(book, at + 2, MOST_THOUSANDTHS)),
-        status: status_of(number, asked),
-    }
-}
-
-pub fn accounts_in(book: &[i64]) -> [Account; 32]
-    ensures { result ≡ accounts_in book.now }
-{
-    let mut accounts = fresh_accounts();
-    let mut p: usize = 0;
-    while p < 32 {
-        accounts[p] = account_at(book, 12 + p * 4);
-        p += 1;
-    }
-    accounts
-}
-
-pub fn ledger_in(book: &[i64]) -> [Allocation; 256]
-    ensures { result ≡ ledger_in book.now }
-{
-    let mut ledger = fresh_ledger();
-    let mut i: usize = 0;
-    while i < 256 {
-        ledger[i] = allocation_at(book, 140 + i * 5);
-        i += 1;
-    }
-    ledger
+    let numbers: &[i64; BOOK_PLACES] = book.as_array()?;
+    let (month, tables) = numbers.split_first_chunk::<12>()?;
+    let (accounts, ledger) = tables.split_first_chunk::<128>()?;
+    let fresh = fresh_whole();
+    Some(Whole {
+        month: Month::read(month)?,
+        accounts: read_table(accounts.as_chunks().0.as_array()?, fresh.accounts[0])?,
+        ledger: read_table(ledger.as_chunks().0.as_array()?, fresh.ledger[0])?,
+    })
 }

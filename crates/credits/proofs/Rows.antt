@@ -1,17 +1,17 @@
 -- What a row of the table tells, and that the test for one does nothing in a whole table and a month of at most 31 days: past the last participant there
 -- are no levels. Assumes nothing.
-use mathlib.Core.Path.{◌≡◌, refl, sym, ap, ◌∙◌}
-use mathlib.Core.Bool.{Bool, true, false, cond, ◌&&◌}
+use mathlib.Core.Path.{◌≡◌, refl}
+use mathlib.Core.Bool.{true, cond}
 use mathlib.Core.List.{List}
 use Prim.Native.Nat.{ℕ, zero, suc, ◌≤◌, ◌<◌}
 use native.Mathlib.Nat.{zero-div}
 use native.Mathlib.Omega.{arith}
-use lib.Dec.{eqb, leb, ltb}
 use lib.ListN.{length, get_or-eq_default}
-use borrow.Author.Tests.{eqb-true, leb-true, ltb-true, ltb-false, eq-eqb, le-leb}
+use borrow.Author.Tests.{eqb-true, leb-true, ltb-true}
+use Rattle.std.proofs.lemmas.Bool.Decides.{nat_tests}
 use Rattle.book.specs.Book.{participants, most_days, level_places}
 use Rattle.book.specs.Words.{level_place, over_days, tradeable_in}
-use Rattle.book.proofs.Tests.{and_left, and_right}
+use Rattle.book.proofs.Tests.{parts}
 use Rattle.credits.specs.Credits.{credit_days, dsm_in, has_row, tradeable_at, dsm_at}
 
 pub record Row (lv : List ℕ) (d p : ℕ) : Type 0 where
@@ -20,14 +20,7 @@ pub record Row (lv : List ℕ) (d p : ℕ) : Type 0 where
   pub party : p < participants
 
 pub row_of : (lv : List ℕ) (d p : ℕ) → has_row lv d p ≡ true → Row lv d p
-row_of lv d p h =
-    let whole = eqb (length lv) level_places in
-    let later = and_right whole (leb d most_days && ltb p participants) h in
-    record {
-      whole = eqb-true (length lv) level_places (and_left whole (leb d most_days && ltb p participants) h);
-      days = leb-true d most_days (and_left (leb d most_days) (ltb p participants) later);
-      party = ltb-true p participants (and_right (leb d most_days) (ltb p participants) later);
-    }
+row_of lv d p h = search (parts, eqb-true, leb-true, ltb-true)
 
 -- ---- nobody past the last participant has credits
 kind_past : (lv : List ℕ) (d p kind : ℕ) → length lv ≡ level_places → participants ≤ p → credit_days lv d p kind ≡ 0
@@ -37,16 +30,9 @@ kind_past lv (suc d) p kind whole past =
     omega (arith, kind_past lv d p kind whole past, get_or-eq_default lv 0 {n = level_place p kind (suc d)} (omega arith))
 
 module _ (lv : List ℕ) (d p : ℕ) (whole : length lv ≡ level_places) (days : d ≤ most_days) where
-  test_is : has_row lv d p ≡ ltb p participants
-  test_is = simp (eq-eqb (length lv) level_places whole, le-leb d most_days days)
-
   -- so the test does nothing
   untested : (n : ℕ) → (participants ≤ p → n ≡ 0) → cond (has_row lv d p) n 0 ≡ n
-  untested n past = ap (λ t. cond t n 0) test_is ∙ by (ltb p participants) refl
-    where
-      by : (t : Bool) → ltb p participants ≡ t → cond t n 0 ≡ n
-      by true e = refl
-      by false e = sym (past (ltb-false p participants e))
+  untested n past = grind (arith, nat_tests)
 
   pub tradeable_at_lem : tradeable_at lv d p ≡ tradeable_in lv d p
   unfolding tradeable_at tradeable_in

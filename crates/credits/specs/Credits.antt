@@ -1,11 +1,7 @@
 -- Credits from a table of levels: of kinds 1 and 2 what a participant can trade, of kind 4 its DSM. Assumes nothing.
-use Rattle.std.specs.Prelude.{Bool, cond, ◌&&◌, List, ℕ, ◌+◌, ◌-◌, ◌/◌, eqb, leb, ltb, length, get_or}
+use Rattle.std.specs.Prelude.{Bool, cond, ◌&&◌, List, ℕ, ◌/◌, eqb, leb, ltb, length}
 use Rattle.book.specs.Book.{participants, most_days, level_places}
 use Rattle.book.specs.Words.{level_in, over_days, tradeable_in}
-
--- the levels of so many days, from a place on
-abbrev pub over_run : List ℕ → ℕ → ℕ → ℕ
-over_run lv from days = over_days days (λ day. get_or lv (from + (day - 1)) 0)
 
 -- the levels of a kind summed over days 1 to d
 abbrev pub credit_days : List ℕ → ℕ → ℕ → ℕ → ℕ

@@ -1,13 +1,13 @@
 // How near each operator's cut lies to the published formula: reads a history of step records on
 // standard input, in chunks of whole records, and prints for each done OPERATOR AMENDS what every
 // allocation had, its exact share, what it has, and the distances, as `audit::misses` finds them.
+//
+// Lines are written by the crate io: println! would make the program rest on os::c::rattle_errno too.
 #![tactic(auto)]
 
-ghost use Rattle.std.specs.Prelude.{◌≤◌, ◌<◌};
-
-use audit::Measured;
-use book::{Account, Allocation, Month};
-use record::{Decoded, Step};
+use book::{Allocation, Whole};
+use ledger::{answer_in, is_cut};
+use record::Step;
 use units::Minutes;
 
 // Standard input, as the system numbers it.
@@ -16,16 +16,29 @@ const STDIN_FILENO: i32 = 0;
 // Standard output, as the system numbers it.
 const STDOUT_FILENO: i32 = 1;
 
-// The book so far, the place of the last record done, whether there was a cut, and whether the last
-// line could be written.
+// So many bytes are read at a time: 2,730 records of 24 bytes. Each program has its own loop over
+// them: a public function that takes what to do with a piece would have a `requires`.
+const CHUNK: usize = 65_520;
+
+// A line could not be written.
 #[derive(Clone, Copy)]
+struct Unwritten;
+
+// The book so far, the place of the last record done, and whether there was a cut.
+#[derive(Drop)]
 struct Desk {
-    month: Month,
-    accounts: [Account; 32],
-    ledger: [Allocation; 256],
+    book: Whole,
     place: u64,
     cut: bool,
-    going: bool,
+}
+
+// A done OPERATOR AMENDS: its place, whose it is, when, and the credits that it was cut to.
+#[derive(Clone, Copy)]
+struct Cut {
+    place: u64,
+    generator: u8,
+    minute: Minutes,
+    credits: u64,
 }
 
 // A text and a number.
@@ -34,7 +47,8 @@ fn show(text: &[u8], number: u64) {
     io::print_decimal(STDOUT_FILENO, number);
 }
 
-// A minute with its sign.
+// A minute with its sign. The program origins has the same: a library for both would have a public
+// function of which no contract can speak.
 fn show_minute(m: Minutes) {
     if m.0 < 0 {
         io::write_all(STDOUT_FILENO, b"-");
@@ -42,178 +56,111 @@ fn show_minute(m: Minutes) {
     io::print_decimal(STDOUT_FILENO, audit::minutes_away(m));
 }
 
-// The line of one allocation that was cut. Answers whether its end was written.
-fn show_share(number: u64, had: u32, has: u32, credits: u64, accepted: u64, distance: u64) -> bool {
+// The end of a line.
+fn end_line() -> Result<(), Unwritten> {
+    if io::write_all(STDOUT_FILENO, b"\n") {
+        Ok(())
+    } else {
+        Err(Unwritten)
+    }
+}
+
+// The line of one allocation that was cut.
+fn show_share(
+    number: u64,
+    had: u32,
+    has: u32,
+    credits: u64,
+    accepted: u64,
+    distance: u64,
+) -> Result<(), Unwritten> {
     show(b"allocation ", number);
-    show(b": had ", had as u64);
-    show(b", exact share ", had as u64);
+    show(b": had ", u64::from(had));
+    show(b", exact share ", u64::from(had));
     show(b" x ", credits);
     show(b" / ", accepted);
-    show(b", has ", has as u64);
+    show(b", has ", u64::from(has));
     show(b", distance ", distance);
-    io::write_all(STDOUT_FILENO, b"\n")
+    end_line()
 }
 
-// The lines of all of them, up to one that cannot be written.
-fn show_shares(
-    generator: u8,
-    credits: u64,
-    measured: Measured,
-    before: [Allocation; 256],
-    after: [Allocation; 256],
-) {
-    let each = measured.each;
-    let mut i: usize = 0;
-    while i < 256 {
-        let old = before[i];
-        let new = after[i];
-        if ledger::is_cut(generator, old) {
-            let had = old.quantity;
-            let has = new.quantity;
-            let number = i as u64 + 1;
-            if !show_share(number, had.0, has.0, credits, measured.accepted, each[i]) {
-                return;
-            }
-        }
-        i += 1;
-    }
-}
-
-// A quantity of 32 bits; the credits of a sound book are one.
-fn narrow(credits: u64) -> u32 {
-    if credits <= 0xffff_ffff {
-        credits as u32
-    } else {
-        0xffff_ffff
-    }
-}
-
-// What a record was as a cut: whether it was a done OPERATOR AMENDS, whose, and when.
-#[derive(Clone, Copy)]
-struct Cut {
-    done: bool,
-    generator: u8,
-    minute: Minutes,
-}
-
-// No cut.
-fn no_cut() -> Cut {
-    Cut {
-        done: false,
-        generator: 0,
-        minute: Minutes(0),
-    }
-}
-
-fn cut_in(said: Decoded, reason: u64) -> Cut {
-    match said {
-        Decoded::Step(step) => match step {
-            Step::OperatorAmends { generator, at } => Cut {
-                done: reason == 0,
-                generator,
-                minute: at,
-            },
-            _ => no_cut(),
-        },
-        Decoded::Refused => no_cut(),
-    }
-}
-
-// All lines of one cut. Answers whether the last was written.
+// All lines of one cut.
 fn show_cut(
-    place: u64,
     cut: Cut,
-    credits: u64,
-    before: [Allocation; 256],
-    after: [Allocation; 256],
-) -> bool {
-    let measured = audit::misses(cut.generator, narrow(credits), before, after);
-    let minute = cut.minute;
-    show(b"record ", place);
+    before: &[Allocation; 256],
+    after: &[Allocation; 256],
+) -> Result<(), Unwritten> {
+    // The credits of a sound book are of 32 bits.
+    let tradeable = u32::try_from(cut.credits).unwrap_or(u32::MAX);
+    let measured = audit::misses(cut.generator, tradeable, before, after);
+    show(b"record ", cut.place);
     io::write_all(STDOUT_FILENO, b", minute ");
-    show_minute(minute);
-    show(b": generator ", cut.generator as u64);
+    show_minute(cut.minute);
+    show(b": generator ", u64::from(cut.generator));
     show(b", accepted ", measured.accepted);
-    show(b", tradeable ", credits);
-    io::write_all(STDOUT_FILENO, b"\n");
-    show_shares(cut.generator, credits, measured, before, after);
+    show(b", tradeable ", cut.credits);
+    end_line()?;
+    for (i, (was, is)) in before.iter().zip(after).enumerate() {
+        if is_cut(cut.generator, *was) {
+            let had = was.quantity.0;
+            let has = is.quantity.0;
+            show_share(
+                i as u64 + 1,
+                had,
+                has,
+                cut.credits,
+                measured.accepted,
+                measured.each[i],
+            )?;
+        }
+    }
     show(b"sum of distances ", measured.sum);
     show(b", each times ", measured.accepted);
-    io::write_all(STDOUT_FILENO, b"\n")
-}
-
-// The place after a place; the last one is its own.
-fn next_place(place: u64) -> u64 {
-    if place == u64::MAX { place } else { place + 1 }
+    end_line()
 }
 
 // One record, and its lines where it is a cut.
-fn one(desk: Desk, levels: &mut [u32], bytes: &[u8]) -> Desk {
-    let m = desk.month;
-    let a = desk.accounts;
-    let before = desk.ledger;
-    let place = next_place(desk.place);
-    let mut answers = [0u64; 1];
-    let ran = ledger::run_whole(m, a, &mut *levels, before, bytes, &mut answers);
-    let month = ran.month;
-    let accounts = ran.accounts;
-    let after = ran.ledger;
-    let cut = cut_in(record::decode(bytes), answers[0] % 32);
-    let mut going = desk.going;
-    if cut.done {
-        let credits = credits::tradeable(&*levels, m.days, cut.generator);
-        going = show_cut(place, cut, credits, before, after);
-    }
-    Desk {
-        month,
-        accounts,
-        ledger: after,
-        place,
-        cut: desk.cut || cut.done,
-        going,
-    }
-}
-
-// Where a record ends, of so many bytes.
-fn end_of(start: usize, bytes: usize) -> usize
-    requires { start < bytes }
-    ensures { (start < result) × (result ≤ bytes) }
-{
-    if bytes - start < 24 {
-        bytes
-    } else {
-        start + 24
-    }
-}
-
-// Every record of a chunk, up to one whose lines cannot be written; a short last piece is one.
-fn every(desk: Desk, levels: &mut [u32], bytes: &[u8]) -> Desk {
-    let mut now = desk;
-    let mut start: usize = 0;
-    while start < bytes.len() {
-        if !now.going {
-            return now;
+fn one(desk: &mut Desk, levels: &mut [u32], bytes: &[u8]) -> Result<(), Unwritten> {
+    let before = desk.book;
+    let mut answers = [0];
+    ledger::run_whole(&mut desk.book, levels, bytes, &mut answers);
+    desk.place = desk.place.saturating_add(1);
+    let done = answer_in(answers[0]).reason == 0;
+    if done {
+        if let Some(Step::OperatorAmends { generator, at }) = record::decode(bytes) {
+            desk.cut = true;
+            let cut = Cut {
+                place: desk.place,
+                generator,
+                minute: at,
+                credits: credits::tradeable(levels, before.month.days, generator),
+            };
+            show_cut(cut, &before.ledger, &desk.book.ledger)?;
         }
-        let end = end_of(start, bytes.len());
-        now = one(now, &mut *levels, &bytes[start..end]);
-        start = end;
     }
-    now
+    Ok(())
 }
 
-// The fresh book.
-fn nothing() -> Desk {
-    let month = book::fresh_month();
-    let accounts = book::fresh_accounts();
-    let ledger = book::fresh_ledger();
-    Desk {
-        month,
-        accounts,
-        ledger,
+// Every record of standard input, up to one whose lines cannot be written; a short last piece is
+// one. Answers whether there was a cut.
+fn show_all() -> Result<bool, Unwritten> {
+    let mut levels = book::fresh_levels();
+    let mut chunk = [0u8; CHUNK];
+    let mut desk = Desk {
+        book: book::fresh_whole(),
         place: 0,
         cut: false,
-        going: true,
+    };
+    for _ in 0..u64::MAX {
+        let got = io::read_full(STDIN_FILENO, &mut chunk);
+        for bytes in chunk[..got].chunks(24) {
+            one(&mut desk, &mut levels, bytes)?;
+        }
+        if got < CHUNK {
+            break;
+        }
     }
+    Ok(desk.cut)
 }
 
 // What is proved of each sum, or that there was none.
@@ -229,20 +176,7 @@ fn conclude(cut: bool) {
 }
 
 fn main() {
-    let mut levels = book::fresh_levels();
-    let mut chunk = [0u8; 65520];
-    let mut desk = nothing();
-    let mut turns = u64::MAX;
-    while 0 < turns {
-        turns -= 1;
-        let got = io::read_full(STDIN_FILENO, &mut chunk);
-        desk = every(desk, &mut levels, &chunk[..got]);
-        if !desk.going {
-            return;
-        }
-        if got < 65520 {
-            break;
-        }
+    if let Ok(cut) = show_all() {
+        conclude(cut);
     }
-    conclude(desk.cut);
 }

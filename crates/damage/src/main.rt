@@ -1,9 +1,12 @@
 // A month on standard input, of at most nine records, printed as it is; then with each of its bytes
 // changed in turn, a line of answers and numbers each; then cut at each length, a line each of how
 // many records stand there, the answer to the last, and the first line of the settlement.
+//
+// Lines are written by the crate io: println! would make the program rest on os::c::rattle_errno too.
 #![tactic(auto)]
 
-use ledger::{Whole, answer_in};
+use book::Whole;
+use ledger::answer_in;
 
 // Standard input, as the system numbers it.
 const STDIN_FILENO: i32 = 0;
@@ -25,37 +28,22 @@ fn then(n: u64) {
     io::print_decimal(STDOUT_FILENO, n);
 }
 
-// A month on the fresh book.
-fn run(month: &[u8], levels: &mut [u32], answers: &mut [u64]) -> Whole {
-    let accounts = book::fresh_accounts();
-    let allocations = book::fresh_ledger();
-    ledger::run_whole(
-        book::fresh_month(),
-        accounts,
-        levels,
-        allocations,
-        month,
-        answers,
-    )
-}
-
 // Answers and numbers, after the place of the byte that was changed.
 fn show_answers(at: usize, answers: &[u64]) {
     first(at as u64);
-    let mut i: usize = 0;
-    while i < answers.len() {
-        let answer = answer_in(answers[i]);
-        then(answer.reason as u64);
-        then(answer.number as u64);
-        i += 1;
+    for word in answers {
+        let answer = answer_in(*word);
+        then(u64::from(answer.reason));
+        then(u64::from(answer.number));
     }
     io::write_all(STDOUT_FILENO, b"\n");
 }
 
 fn show_changed(at: usize, month: &[u8]) {
+    let mut book = book::fresh_whole();
     let mut levels = book::fresh_levels();
     let mut answers = [0u64; RECORDS];
-    run(month, &mut levels, &mut answers);
+    ledger::run_whole(&mut book, &mut levels, month, &mut answers);
     show_answers(at, &answers);
 }
 
@@ -65,81 +53,64 @@ fn changed(byte: u8) -> u8 {
 }
 
 fn change_each(month: &mut [u8]) {
-    let mut i: usize = 0;
-    while i < month.len() {
+    for i in 0..month.len() {
         let byte = month[i];
         month[i] = changed(byte);
-        show_changed(i, &*month);
+        show_changed(i, month);
         month[i] = byte;
-        i += 1;
     }
-}
-
-// The answer to the last of so many records; nothing where there is none.
-fn show_last(records: usize, answers: &[u64]) {
-    if records == 0 {
-        return;
-    }
-    if answers.len() < records {
-        return;
-    }
-    let answer = answer_in(answers[records - 1]);
-    then(answer.reason as u64);
 }
 
 // The first line of a settlement, put into `line`; no line where nobody is registered.
-fn first_line(line: &mut [u8], whole: Whole, levels: &[u32]) -> usize {
-    let month = whole.month;
-    let accounts = whole.accounts;
-    let allocations = whole.ledger;
-    let settled = settlement::settle_whole(month, accounts, levels, allocations);
-    if settled.reason != 0 {
-        return text::refusal_line(line, 0, settled.reason);
+fn first_line(line: &mut [u8], book: &Whole, levels: &[u32]) -> usize {
+    match settlement::settle_whole(book, levels) {
+        Ok(listing) => match listing.figures().first() {
+            Some(f) => text::figures_line(line, 0, f.participant, printout::figures_of(*f)),
+            None => 0,
+        },
+        Err(reason) => text::refusal_line(line, 0, u8::from(reason)),
     }
-    if settled.count == 0 {
-        return 0;
-    }
-    let f = settled.figures[0];
-    text::figures_line(line, 0, f.participant, printout::figures_of(f))
 }
 
-fn show_line(line: &[u8], length: usize) {
-    if length == 0 {
+// A line after what stands on it already; its end alone where there is none.
+fn show_line(line: &[u8]) {
+    if line.is_empty() {
         io::write_all(STDOUT_FILENO, b"\n");
-        return;
+    } else {
+        io::write_all(STDOUT_FILENO, b" ");
+        io::write_all(STDOUT_FILENO, line);
     }
-    if line.len() < length {
-        return;
-    }
-    io::write_all(STDOUT_FILENO, b" ");
-    io::write_all(STDOUT_FILENO, &line[0..length]);
 }
 
+// How many records stand in a month, the answer to the last, and the first line of the settlement.
 fn show_cut(month: &[u8]) {
+    let mut book = book::fresh_whole();
     let mut levels = book::fresh_levels();
     let mut answers = [0u64; RECORDS];
-    let mut line = [0u8; text::FIGURES_ROOM];
-    let whole = run(month, &mut levels, &mut answers);
+    let records = ledger::run_whole(&mut book, &mut levels, month, &mut answers);
     first(month.len() as u64);
-    then(whole.records as u64);
-    show_last(whole.records, &answers);
-    let length = first_line(&mut line, whole, &levels);
-    show_line(&line, length);
+    then(records as u64);
+    if let Some(word) = answers[..records].last() {
+        then(u64::from(answer_in(*word).reason));
+    }
+    let mut line = [0u8; text::FIGURES_ROOM];
+    let length = first_line(&mut line, &book, &levels);
+    if let Some(line) = line.get(..length) {
+        show_line(line);
+    }
 }
 
 fn cut_each(month: &[u8]) {
-    let mut i: usize = 0;
-    while i <= month.len() {
-        show_cut(&month[0..i]);
-        i += 1;
+    for i in 0..=month.len() {
+        show_cut(&month[..i]);
     }
 }
 
 // A month as it is, changed and cut.
 fn print_all(month: &mut [u8]) {
-    printout::print_history(&*month);
+    printout::print_history(month);
     change_each(month);
-    cut_each(&*month);
+    cut_each(month);
 }
 
 fn main() {

@@ -24,17 +24,15 @@ pub fn history_at<'d, 'h>(drafts: &'d [u8], history: &'h [u8], place: usize) -> 
     shown(history, place)
 }
 
-// The record at a place of one file.
+// The record at a place of one file. By ranges: `get` and `chunks` do not say where in memory what
+// they lend stands, of which the clause `uncopied` speaks.
 #[tactic(auto, unfolding(crate::specs::Showing::record_at, crate::specs::Showing::stands_at))]
 fn shown(file: &[u8], place: usize) -> &[u8]
     ensures bytes { result.now ≡ record_at file.now place }
     ensures uncopied { result.ref_ptr ≡ stands_at file.entry place }
 {
-    if place == 0 {
-        return &file[0..0];
-    }
-    if file.len() / 24 < place {
-        return &file[0..0];
+    if place == 0 || file.len() / 24 < place {
+        return &file[..0];
     }
     let from = (place - 1) * 24;
     &file[from..from + 24]

@@ -1,46 +1,54 @@
--- What the chains of several kinds share: reasons 2 and 4, and of a kind that names an allocation also 5 and 6 (`as_named`). Where the number named was
--- not given, reason 5 comes before the record matters, and where it was, the record is the book's (`named`). Assumes nothing.
-use mathlib.Core.Path.{◌≡◌, ◌∙◌}
-use mathlib.Core.Bool.{not, ◌||◌, or-true}
+-- What the doors' proofs share: document 01's table of reasons 2 to 11, opened (`opened`), and kinds that name an allocation (`named`): where the number
+-- named was not given, reason 5 comes before the record matters, and where it was, the record is the book's. Assumes nothing.
+use mathlib.Core.Path.{◌≡◌, refl, ◌∙◌}
+use mathlib.Core.Bool.{or-true}
 use Prim.Native.Nat.{ℕ}
-use lib.Dec.{eqb, ltb}
-use lib.Signed.{lt_z}
 use Rattle.units.specs.declared.Minutes.{Minutes}
+use Rattle.units.specs.declared.Thousandths.{Thousandths}
 use Rattle.record.specs.declared.Step.{Step}
+use Rattle.record.specs.declared.Step.TheVariants as S
 use Rattle.book.specs.declared.Month.{Month}
 use Rattle.book.specs.declared.Allocation.{Allocation}
 use Rattle.book.specs.Book.{Book, account, allocation}
-use Rattle.book.specs.Reasons.{window_open, has, not_given, early, lowest, reason2, reason3, reason4, reason5, reason6, in_range, reason8, reason9, reason10, reason11}
-use Rattle.reasons.specs.Chain.{when, first}
+use Rattle.book.specs.Reasons.{not_given, early, lowest, reason2, reason3, reason4, reason5, reason6, in_range, reason8, reason9, reason10, reason11}
+use Rattle.reasons.specs.Chain.{first}
 use Rattle.reasons.proofs.Chain.{lines, first_first, either_way}
-use Rattle.gate.specs.Doors.{ByNamed}
+use Rattle.gate.specs.declared.LevelChange.{LevelChange}
+use Rattle.gate.specs.declared.LevelChange.TheVariants.{Create, Terminate}
+use Rattle.gate.specs.declared.Trade.{Trade}
+use Rattle.gate.specs.declared.AllocationStep.{AllocationStep}
+use Rattle.gate.specs.declared.trades.Asked.{Asked}
+use Rattle.gate.specs.Rooms.{credits, trades}
+use Rattle.gate.specs.Doors.{number_in, ByTrade}
+use Rattle.gate.specs.Shared.{as_named}
 
 -- for an `unfolding` line: to unfold this is to unfold each of reasons 2 to 11
 unfoldable pub opened : Book → Step → ℕ
 unfolding reason2 reason3 reason4 reason5 reason6 in_range reason8 reason9 reason10 reason11
 opened = lowest early
 
--- 2 and 4
-abbrev pub before_all : Month → Minutes → ℕ
-before_all m t = first (when (eqb m.days 0) 2) (when (lt_z t.0 m.last.0) 4)
+-- CREATE and TERMINATE have one door
+pub one_door : (b : Book) (change : LevelChange) (p k d : ℕ) (q : Thousandths) (t : Minutes)
+    → lowest early b (credits change p k d q t) ≡ lowest early b (S.Create p k d q t)
+unfolding opened
+one_door b Create p k d q t = refl
+one_door b Terminate p k d q t = refl
 
--- ---- kinds that name an allocation
--- 2, 4, 5 and 6 where A has to be the named party of it
-abbrev pub as_named : Month → ℕ → ℕ → ℕ → ℕ → Minutes → ℕ
-as_named m roles party p n t = first (before_all m t) (first (when (eqb roles 0 || (eqb n 0 || ltb m.given n)) 5) (when (not (eqb party p)) 6))
+-- what a step sees of a book that names an allocation
+abbrev pub asked : Book → ℕ → ℕ → Minutes → Asked
+asked b p n t = record { month = b.month; roles = (account b p).roles; here = allocation b n; party = p; at = t }
 
--- 8 and 9 where a window has to be open and the status to be one
-abbrev pub at_status : ℕ → ℕ → Month → Minutes → Allocation → ℕ
-at_status window status m t l = first (when (not (window_open m window t)) 8) (when (not (has status l)) 9)
-
--- on every book such a kind's step is refused for `as_named`, or else for the rest of its reasons
-pub record Named (party : Allocation → ℕ) (rest : Month → Minutes → Allocation → ℕ) (step : ℕ → ℕ → Minutes → Step) : Type 0 where
+-- a kind that names an allocation: on every book it is refused for `as_named`, or else for the rest of its reasons
+pub record Named (trade : ℕ → Trade) (party : Allocation → ℕ) (rest : Month → Minutes → Allocation → ℕ) : Type 0 where
+  pub names : (n : ℕ) → number_in (trade n) ≡ n
   pub on : (b : Book) (p n : ℕ) (t : Minutes)
-      → first (as_named b.month (account b p).roles (party (allocation b n)) p n t) (rest b.month t (allocation b n)) ≡ lowest early b (step p n t)
+      → first (as_named (asked b p n t) (party (allocation b n)) n) (rest b.month t (allocation b n)) ≡ lowest early b (trades p (trade n) t)
 
 -- so it is too by a record that is the book's where the number was given
-pub named : {party : Allocation → ℕ} {rest : Month → Minutes → Allocation → ℕ} {step : ℕ → ℕ → Minutes → Step} → Named party rest step
-    → {m : Month} {roles : ℕ} (p n : ℕ) (t : Minutes) {here : Allocation} {r : ℕ} → r ≡ first (as_named m roles (party here) p n t) (rest m t here)
-    → ByNamed m p roles n here (step p n t) r
-named kind p n t e b e-m e-r h =
-    rw (e, ← e-m, ← e-r) (either_way (not_given b n) (λ e. simp first_first (simp (lines, e, or-true))) (λ e. rw (h e)) ∙ kind.on b p n t)
+pub named : {trade : ℕ → Trade} {party : Allocation → ℕ} {rest : Month → Minutes → Allocation → ℕ} → Named trade party rest
+    → (m : Month) (roles customers : ℕ) (here : Allocation) (x : AllocationStep) (n : ℕ) {r : ℕ} → x.trade ≡ trade n
+    → r ≡ first (as_named (record { month = m; roles = roles; here = here; party = x.party; at = x.at }) (party here) n) (rest m x.at here)
+    → ByTrade m roles customers here x r
+named kind m roles customers here x n is e b e-m e-r _ h =
+    let given = rw (is, kind.names n) at h in
+    rw (e, is, ← e-m, ← e-r) (either_way (not_given b n) (λ e. simp first_first (simp (lines, e, or-true))) (λ e. rw (given e)) ∙ kind.on b x.party n x.at)

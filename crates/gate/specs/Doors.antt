@@ -23,11 +23,6 @@ ByParty m p roles s r = (b : Book) → b.month ≡ m → (account b p).roles ≡
 abbrev pub ByParties : Month → ℕ → ℕ → ℕ → ℕ → Step → ℕ → Type 0
 ByParties m p roles c customers s r = (b : Book) → b.month ≡ m → (account b p).roles ≡ roles → (account b c).roles ≡ customers → r ≡ lowest early b s
 
--- the month, the roles of the party, and the allocation named, where that number was given
-abbrev pub ByNamed : Month → ℕ → ℕ → ℕ → Allocation → Step → ℕ → Type 0
-ByNamed m p roles n here s r =
-    (b : Book) → b.month ≡ m → (account b p).roles ≡ roles → (not_given b n ≡ false → allocation b n ≡ here) → r ≡ lowest early b s
-
 -- participant B: the customer of a SUBMIT
 abbrev pub customer_in : Trade → ℕ
 customer_in (Submit c q) = c
@@ -46,7 +41,8 @@ number_in (AskReversal n) = n
 number_in (AgreeReversal n) = n
 number_in (Amend n q) = n
 
--- all of these, for a step that alters one allocation; of B only where it is another participant than A
+-- the month, the roles of A, and of a step that alters one allocation also those of B, where it is another participant than A, and the allocation
+-- named, where that number was given
 abbrev pub ByTrade : Month → ℕ → ℕ → Allocation → AllocationStep → ℕ → Type 0
 ByTrade m roles customers here x r =
     (b : Book) → b.month ≡ m → (account b x.party).roles ≡ roles

@@ -1,17 +1,17 @@
 -- A step by the part of the book that it alters: what a room's step says in document 01's kinds. Assumes nothing.
-use Rattle.std.specs.Prelude.{Bool, true, false, ℕ}
+use Rattle.std.specs.Prelude.{Bool, true, false, ℕ, Option, Some, None}
 use Rattle.units.specs.declared.Minutes.{Minutes}
 use Rattle.units.specs.declared.Thousandths.{Thousandths}
 use Rattle.record.specs.declared.Step.{Step}
 use Rattle.record.specs.declared.Step.TheVariants as S
-use Rattle.record.specs.declared.Decoded.{Decoded}
-use Rattle.record.specs.declared.Decoded.TheVariants as D
 use Rattle.gate.specs.declared.MonthChange.{MonthChange}
 use Rattle.gate.specs.declared.MonthChange.TheVariants.{Open, Window}
 use Rattle.gate.specs.declared.MonthStep.{MonthStep}
 use Rattle.gate.specs.declared.AccountChange.{AccountChange}
 use Rattle.gate.specs.declared.AccountChange.TheVariants.{Roles, Requirement, Margin}
 use Rattle.gate.specs.declared.AccountStep.{AccountStep}
+use Rattle.gate.specs.declared.LevelChange.{LevelChange}
+use Rattle.gate.specs.declared.LevelChange.TheVariants.{Create, Terminate}
 use Rattle.gate.specs.declared.LevelStep.{LevelStep}
 use Rattle.gate.specs.declared.Trade.{Trade}
 use Rattle.gate.specs.declared.Trade.TheVariants.{Submit, Withdraw, Accept, AskReversal, AgreeReversal, Amend}
@@ -38,12 +38,16 @@ abbrev pub account_step : AccountStep → Step
 account_step x = sets_account x.participant x.change x.at
 
 -- CREATE and TERMINATE
-abbrev pub credits : Bool → ℕ → ℕ → ℕ → Thousandths → Minutes → Step
-credits true p k d q t = S.Create p k d q t
-credits false p k d q t = S.Terminate p k d q t
+abbrev pub creates : LevelChange → Bool
+creates Create = true
+creates Terminate = false
+
+abbrev pub credits : LevelChange → ℕ → ℕ → ℕ → Thousandths → Minutes → Step
+credits Create p k d q t = S.Create p k d q t
+credits Terminate p k d q t = S.Terminate p k d q t
 
 abbrev pub level_step : LevelStep → Step
-level_step x = credits x.creates x.participant x.kind x.day x.quantity x.at
+level_step x = credits x.change x.participant x.kind x.day x.quantity x.at
 
 -- SUBMIT to AGREE REVERSAL, and GENERATOR AMENDS
 abbrev pub trades : ℕ → Trade → Minutes → Step
@@ -62,10 +66,10 @@ abbrev pub cut_step : CutStep → Step
 cut_step x = S.OperatorAmends x.generator x.at
 
 -- what a record says that comes into a room
-abbrev pub said_by : Room → Decoded
-said_by (R.Month x) = D.Step (month_step x)
-said_by (R.Account x) = D.Step (account_step x)
-said_by (R.Levels x) = D.Step (level_step x)
-said_by (R.Allocation x) = D.Step (allocation_step x)
-said_by (R.Cut x) = D.Step (cut_step x)
-said_by R.Nowhere = D.Refused
+abbrev pub said_by : Room → Option Step
+said_by (R.Month x) = Some (month_step x)
+said_by (R.Account x) = Some (account_step x)
+said_by (R.Levels x) = Some (level_step x)
+said_by (R.Allocation x) = Some (allocation_step x)
+said_by (R.Cut x) = Some (cut_step x)
+said_by R.Nowhere = None

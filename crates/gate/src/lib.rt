@@ -3,7 +3,7 @@
 // 01's table of kinds has it, and a room's own step has what its kinds use and nothing else.
 #![tactic(auto)]
 
-ghost use Rattle.std.specs.Prelude.{◌≡◌};
+ghost use Rattle.std.specs.Prelude.{◌≡◌, Some};
 ghost use Rattle.gate.specs.Rooms.{said_by};
 
 mod doors; // doors.rt: steps that alter the month, an account, levels, or all that a generator has accepted
@@ -11,9 +11,12 @@ mod tests; // tests.rt: of a time, a window, and the numbers of a step
 mod trades; // trades.rt: steps that alter one allocation
 
 pub use doors::{account_reason, cut_reason, levels_reason, month_reason};
-use record::{Decoded, Step};
+use record::Step;
 pub use trades::allocation_reason;
 use units::{Cents, LongMinutes, Minutes, Thousandths};
+
+// A step's days, selector, roles and kind are numbers as its record has them: a record may hold any,
+// and the doors answer for those that stand for nothing (reason 7).
 
 // What OPEN and WINDOW set.
 #[derive(Clone, Copy)]
@@ -45,10 +48,17 @@ pub struct AccountStep {
     pub at: Minutes,
 }
 
-// A step that alters levels: CREATE, else TERMINATE.
+// What is done to levels.
+#[derive(Clone, Copy, PartialEq, Eq)]
+pub enum LevelChange {
+    Create,
+    Terminate,
+}
+
+// A step that alters levels: CREATE or TERMINATE.
 #[derive(Clone, Copy)]
 pub struct LevelStep {
-    pub creates: bool,
+    pub change: LevelChange,
     pub participant: u8,
     pub kind: u8,
     pub day: u8,
@@ -119,97 +129,96 @@ fn allocation(party: u8, trade: Trade, at: Minutes) -> Room
 }
 
 // The room of a step.
-fn room_for(step: Step) -> Room
-    ensures { said_by result ≡ Decoded.Step step }
-{
-    match step {
-        Step::Open { days, price, at } => month(MonthChange::Open { days, price }, at),
-        Step::Window { selector, end, at } => month(MonthChange::Window { selector, end }, at),
-        Step::Register {
-            participant,
-            roles,
-            at,
-        } => account(participant, AccountChange::Roles(roles), at),
-        Step::Requirement {
-            customer,
-            quantity,
-            at,
-        } => account(customer, AccountChange::Requirement(quantity), at),
-        Step::Margin {
-            participant,
-            figure,
-            at,
-        } => account(participant, AccountChange::Margin(figure), at),
-        Step::Create {
-            participant,
-            kind,
-            day,
-            quantity,
-            at,
-        } => Room::Levels(LevelStep {
-            creates: true,
-            participant,
-            kind,
-            day,
-            quantity,
-            at,
-        }),
-        Step::Terminate {
-            participant,
-            kind,
-            day,
-            quantity,
-            at,
-        } => Room::Levels(LevelStep {
-            creates: false,
-            participant,
-            kind,
-            day,
-            quantity,
-            at,
-        }),
-        Step::Submit {
-            generator,
-            customer,
-            quantity,
-            at,
-        } => allocation(generator, Trade::Submit { customer, quantity }, at),
-        Step::Withdraw {
-            generator,
-            number,
-            at,
-        } => allocation(generator, Trade::Withdraw(number), at),
-        Step::Accept {
-            customer,
-            number,
-            at,
-        } => allocation(customer, Trade::Accept(number), at),
-        Step::AskReversal {
-            generator,
-            number,
-            at,
-        } => allocation(generator, Trade::AskReversal(number), at),
-        Step::AgreeReversal {
-            customer,
-            number,
-            at,
-        } => allocation(customer, Trade::AgreeReversal(number), at),
-        Step::GeneratorAmends {
-            generator,
-            number,
-            quantity,
-            at,
-        } => allocation(generator, Trade::Amend { number, quantity }, at),
-        Step::OperatorAmends { generator, at } => Room::Cut(CutStep { generator, at }),
+impl From<Step> for Room {
+    ghost from_gives = { λ step room. said_by room ≡ Some step };
+
+    fn from(step: Step) -> Room {
+        match step {
+            Step::Open { days, price, at } => month(MonthChange::Open { days, price }, at),
+            Step::Window { selector, end, at } => month(MonthChange::Window { selector, end }, at),
+            Step::Register {
+                participant,
+                roles,
+                at,
+            } => account(participant, AccountChange::Roles(roles), at),
+            Step::Requirement {
+                customer,
+                quantity,
+                at,
+            } => account(customer, AccountChange::Requirement(quantity), at),
+            Step::Margin {
+                participant,
+                figure,
+                at,
+            } => account(participant, AccountChange::Margin(figure), at),
+            Step::Create {
+                participant,
+                kind,
+                day,
+                quantity,
+                at,
+            } => Room::Levels(LevelStep {
+                change: LevelChange::Create,
+                participant,
+                kind,
+                day,
+                quantity,
+                at,
+            }),
+            Step::Terminate {
+                participant,
+                kind,
+                day,
+                quantity,
+                at,
+            } => Room::Levels(LevelStep {
+                change: LevelChange::Terminate,
+                participant,
+                kind,
+                day,
+                quantity,
+                at,
+            }),
+            Step::Submit {
+                generator,
+                customer,
+                quantity,
+                at,
+            } => allocation(generator, Trade::Submit { customer, quantity }, at),
+            Step::Withdraw {
+                generator,
+                number,
+                at,
+            } => allocation(generator, Trade::Withdraw(number), at),
+            Step::Accept {
+                customer,
+                number,
+                at,
+            } => allocation(customer, Trade::Accept(number), at),
+            Step::AskReversal {
+                generator,
+                number,
+                at,
+            } => allocation(generator, Trade::AskReversal(number), at),
+            Step::AgreeReversal {
+                customer,
+                number,
+                at,
+            } => allocation(customer, Trade::AgreeReversal(number), at),
+            Step::GeneratorAmends {
+                generator,
+                number,
+                quantity,
+                at,
+            } => allocation(generator, Trade::Amend { number, quantity }, at),
+            Step::OperatorAmends { generator, at } => Room::Cut(CutStep { generator, at }),
+        }
     }
 }
 
 // The room of what a record says.
-pub fn room_of(said: Decoded) -> Room
+pub fn room_of(said: Option<Step>) -> Room
     ensures { said_by result ≡ said }
 {
-    match said {
-        Decoded::Step(step) => room_for(step),
-        Decoded::Refused => Room::Nowhere,
-    }
+    said.map_or(Room::Nowhere, Room::from)
 }

@@ -1,54 +1,42 @@
 // What a step is refused for at the door, by kind: steps that alter one allocation.
-ghost use Rattle.std.specs.Prelude.{◌≡◌, not, cond, ◌&&◌, ◌||◌, eqb, ltb};
-ghost use Rattle.std.specs.Int.Signed.{lt_z};
+#![tactic(auto, unfolding(reasons::specs::Chain::when, reasons::specs::Chain::first, book::specs::Reasons::window_open))]
+
+ghost use Rattle.std.specs.Prelude.{◌≡◌, not, ◌||◌, ◌+◌, ◌<◌};
 ghost use Rattle.record.specs.declared.Step.TheVariants as S;
-ghost use Rattle.book.specs.Book.{status_number, SUBMITTED, WITHDRAWN};
+ghost use Rattle.book.specs.Reasons.{window_open};
 ghost use Rattle.reasons.specs.Chain.{when, first};
+ghost use Rattle.reasons.specs.Numbers.{reason_said};
 ghost use Rattle.reasons.specs.Parts.{generates, consumes};
-ghost use Rattle.gate.specs.Doors.{ByParties, ByNamed, ByTrade};
+ghost use Rattle.gate.specs.Doors.{ByParties, ByTrade};
+ghost use Rattle.gate.specs.Shared.{as_named, in_window, to_accept, to_amend};
 
 use crate::doors::before_all;
-use crate::tests::{is_open, lies_in, not_given};
+use crate::tests::{is_open, not_given, quantity_fits};
 use crate::{AllocationStep, Trade};
 use book::{Allocation, Month, Status};
 use reasons::{
-    ACCEPTED, ALL_GIVEN, CLOSED, MOST_GIVEN, MOST_QUANTITY, OUTSIDE, REVERSAL_ASKED, SUBMITTED,
-    UNKNOWN, WAS_WITHDRAWN, WITHDRAWN, WRONG_PARTY, WRONG_STATUS, both, either, first_of,
-    is_customer, is_generator, negated, number_of, refused_if, refused_unless,
+    MOST_GIVEN, MOST_QUANTITY, Reason, is_customer, is_generator, refused_if, refused_unless,
 };
 use units::{Minutes, Thousandths};
 
-// The windows.
-const SUBMITTING: usize = 1;
+// The places of the windows.
+const SUBMITTING: usize = 0;
 
-const ACCEPTING: usize = 2;
+const ACCEPTING: usize = 1;
 
-const WITHDRAWING: usize = 3;
+const WITHDRAWING: usize = 2;
 
-const REVERSING: usize = 4;
+const REVERSING: usize = 3;
 
 // Whether A is no generator or B no customer.
 fn wrong_parties(roles: u8, customers: u8) -> bool
     ensures { result ≡ (not (generates roles) || not (consumes customers)) }
 {
-    either(
-        negated(is_generator(roles)),
-        negated(is_customer(customers)),
-    )
-}
-
-// B's roles; those of A where the two are one participant.
-fn roles_of_b(generator: u8, roles: u8, customer: u8, customers: u8) -> u8
-    ensures { result ≡ cond (eqb generator customer) roles customers }
-{
-    if generator == customer {
-        roles
-    } else {
-        customers
-    }
+    !is_generator(roles) || !is_customer(customers)
 }
 
 // SUBMIT, whose parties are A and B.
+#[tactic(auto, unfolding(reasons::specs::Chain::when, reasons::specs::Chain::first, crate::proofs::Chains::opened, book::specs::Reasons::window_open))]
 fn submit(
     m: Month,
     roles: u8,
@@ -57,116 +45,77 @@ fn submit(
     customer: u8,
     quantity: Thousandths,
     at: Minutes,
-) -> u8
-    ensures { ByParties m generator roles customer customers (S.Submit generator customer quantity at) result }
+) -> Result<(), Reason>
+    ensures { ByParties m generator roles customer customers (S.Submit generator customer quantity at) (reason_said result) }
 {
-    let unknown = either(roles == 0, customers == 0);
-    let wrong = wrong_parties(roles, customers);
-    let fits = lies_in(1, MOST_QUANTITY, quantity.0);
-    let last = first_of(
-        refused_unless(is_open(m, SUBMITTING, at), CLOSED),
-        refused_if(MOST_GIVEN <= m.given, ALL_GIVEN),
-    );
-    let later = first_of(
-        refused_if(wrong, WRONG_PARTY),
-        first_of(refused_unless(fits, OUTSIDE), last),
-    );
-    first_of(
-        before_all(m, at),
-        first_of(refused_if(unknown, UNKNOWN), later),
-    )
+    before_all(m, at)?;
+    refused_if(roles == 0 || customers == 0, Reason::Unknown)?;
+    refused_if(wrong_parties(roles, customers), Reason::WrongParty)?;
+    refused_unless(quantity_fits(quantity), Reason::Outside)?;
+    refused_unless(is_open(m.windows[SUBMITTING], at), Reason::Closed)?;
+    refused_if(MOST_GIVEN <= m.given, Reason::AllGiven)
 }
 
-// 2, 4, 5 and 6 where A has to be the named party of an allocation.
-fn as_named(m: Month, roles: u8, named: u8, party: u8, number: u16, at: Minutes) -> u8
-    ensures { result ≡ first (first (when (eqb m.days 0) 2) (when (lt_z at.0 m.last.0) 4)) (first (when (eqb roles 0 || (eqb number 0 || ltb m.given number)) 5) (when (not (eqb named party)) 6)) }
-{
-    let unknown = either(roles == 0, not_given(m, number));
-    first_of(
-        before_all(m, at),
-        first_of(
-            refused_if(unknown, UNKNOWN),
-            refused_unless(named == party, WRONG_PARTY),
-        ),
-    )
-}
-
-fn withdraw(m: Month, roles: u8, here: Allocation, party: u8, number: u16, at: Minutes) -> u8
-    ensures { ByNamed m party roles number here (S.Withdraw party number at) result }
-{
-    let s = here.status;
-    let later = first_of(
-        refused_unless(is_open(m, WITHDRAWING, at), CLOSED),
-        refused_unless(number_of(s) == SUBMITTED, WRONG_STATUS),
-    );
-    first_of(as_named(m, roles, here.generator, party, number, at), later)
-}
-
-// 9 and 10 for ACCEPT.
-fn not_pending(status: Status) -> u8
-    ensures { result ≡ first (when (not (eqb (status_number status) SUBMITTED) && not (eqb (status_number status) WITHDRAWN)) 9) (when (eqb (status_number status) WITHDRAWN) 10) }
-{
-    let n = number_of(status);
-    let other = both(negated(n == SUBMITTED), negated(n == WITHDRAWN));
-    first_of(
-        refused_if(other, WRONG_STATUS),
-        refused_if(n == WITHDRAWN, WAS_WITHDRAWN),
-    )
-}
-
-fn accept(m: Month, roles: u8, here: Allocation, party: u8, number: u16, at: Minutes) -> u8
-    ensures { ByNamed m party roles number here (S.Accept party number at) result }
-{
-    let s = here.status;
-    let closed = refused_unless(is_open(m, ACCEPTING, at), CLOSED);
-    first_of(
-        as_named(m, roles, here.customer, party, number, at),
-        first_of(closed, not_pending(s)),
-    )
-}
-
-fn ask_reversal(m: Month, roles: u8, here: Allocation, party: u8, number: u16, at: Minutes) -> u8
-    ensures { ByNamed m party roles number here (S.AskReversal party number at) result }
-{
-    let s = here.status;
-    let later = first_of(
-        refused_unless(is_open(m, REVERSING, at), CLOSED),
-        refused_unless(number_of(s) == ACCEPTED, WRONG_STATUS),
-    );
-    first_of(as_named(m, roles, here.generator, party, number, at), later)
-}
-
-fn agree_reversal(m: Month, roles: u8, here: Allocation, party: u8, number: u16, at: Minutes) -> u8
-    ensures { ByNamed m party roles number here (S.AgreeReversal party number at) result }
-{
-    let s = here.status;
-    let later = first_of(
-        refused_unless(is_open(m, REVERSING, at), CLOSED),
-        refused_unless(number_of(s) == REVERSAL_ASKED, WRONG_STATUS),
-    );
-    first_of(as_named(m, roles, here.customer, party, number, at), later)
-}
-
-// GENERATOR AMENDS.
-fn amend(
-    m: Month,
+// What a step on an allocation that it names goes by, but for the number: the month, A's roles, the
+// record at the number's place, A and the minute.
+#[derive(Clone, Copy)]
+struct Asked {
+    month: Month,
     roles: u8,
     here: Allocation,
     party: u8,
-    number: u16,
-    quantity: Thousandths,
     at: Minutes,
-) -> u8
-    ensures { ByNamed m party roles number here (S.GeneratorAmends party number quantity at) result }
-{
-    let s = here.status;
-    let n = number_of(s);
-    let accepted = either(n == ACCEPTED, n == REVERSAL_ASKED);
-    let later = first_of(
-        refused_unless(quantity.at_most(Thousandths(MOST_QUANTITY)), OUTSIDE),
-        refused_unless(accepted, WRONG_STATUS),
-    );
-    first_of(as_named(m, roles, here.generator, party, number, at), later)
+}
+
+impl Asked {
+    // 2, 4, 5 and 6, where A has to be a party of the allocation: `named`.
+    fn as_named(self, named: u8, number: u16) -> Result<(), Reason>
+        ensures { reason_said result ≡ as_named self named number }
+    {
+        before_all(self.month, self.at)?;
+        refused_if(
+            self.roles == 0 || not_given(self.month, number),
+            Reason::Unknown,
+        )?;
+        refused_unless(named == self.party, Reason::WrongParty)
+    }
+
+    // WITHDRAW, ASK REVERSAL and AGREE REVERSAL: in a window, where the allocation has the status.
+    fn timed(self, named: u8, number: u16, window: usize, has: bool) -> Result<(), Reason>
+        requires { window < 4 }
+        ensures { reason_said result ≡ first (as_named self named number) (in_window (window + 1) has self.month self.at) }
+    {
+        self.as_named(named, number)?;
+        refused_unless(is_open(self.month.windows[window], self.at), Reason::Closed)?;
+        refused_unless(has, Reason::WrongStatus)
+    }
+
+    fn accept(self, number: u16) -> Result<(), Reason>
+        ensures { reason_said result ≡ first (as_named self self.here.customer number) (to_accept self.month self.at self.here) }
+    {
+        let withdrawn = self.here.status == Status::Withdrawn;
+        let other = self.here.status != Status::Submitted && !withdrawn;
+        self.as_named(self.here.customer, number)?;
+        refused_unless(
+            is_open(self.month.windows[ACCEPTING], self.at),
+            Reason::Closed,
+        )?;
+        refused_if(other, Reason::WrongStatus)?;
+        refused_if(withdrawn, Reason::WasWithdrawn)
+    }
+
+    // GENERATOR AMENDS.
+    fn amend(self, number: u16, quantity: Thousandths) -> Result<(), Reason>
+        ensures { reason_said result ≡ first (as_named self self.here.generator number) (to_amend quantity self.here) }
+    {
+        let accepted = matches!(
+            self.here.status,
+            Status::Accepted | Status::ReversalAsked(_)
+        );
+        self.as_named(self.here.generator, number)?;
+        refused_unless(quantity <= Thousandths(MOST_QUANTITY), Reason::Outside)?;
+        refused_unless(accepted, Reason::WrongStatus)
+    }
 }
 
 // SUBMIT to AGREE REVERSAL, and GENERATOR AMENDS.
@@ -176,21 +125,38 @@ pub fn allocation_reason(
     customers: u8,
     here: Allocation,
     x: AllocationStep,
-) -> u8
-    ensures { ByTrade m roles customers here x result }
+) -> Result<(), Reason>
+    ensures { ByTrade m roles customers here x (reason_said result) }
 {
-    let p = x.party;
-    let at = x.at;
-    let trade = x.trade;
-    match trade {
+    let asked = Asked {
+        month: m,
+        roles,
+        here,
+        party: x.party,
+        at: x.at,
+    };
+    match x.trade {
         Trade::Submit { customer, quantity } => {
-            let others = roles_of_b(p, roles, customer, customers);
-            submit(m, roles, others, p, customer, quantity, at)
+            let others = if customer == x.party {
+                roles
+            } else {
+                customers
+            };
+            submit(m, roles, others, x.party, customer, quantity, x.at)
         }
-        Trade::Withdraw(number) => withdraw(m, roles, here, p, number, at),
-        Trade::Accept(number) => accept(m, roles, here, p, number, at),
-        Trade::AskReversal(number) => ask_reversal(m, roles, here, p, number, at),
-        Trade::AgreeReversal(number) => agree_reversal(m, roles, here, p, number, at),
-        Trade::Amend { number, quantity } => amend(m, roles, here, p, number, quantity, at),
+        Trade::Withdraw(number) => {
+            let submitted = here.status == Status::Submitted;
+            asked.timed(here.generator, number, WITHDRAWING, submitted)
+        }
+        Trade::Accept(number) => asked.accept(number),
+        Trade::AskReversal(number) => {
+            let accepted = here.status == Status::Accepted;
+            asked.timed(here.generator, number, REVERSING, accepted)
+        }
+        Trade::AgreeReversal(number) => {
+            let is_asked = matches!(here.status, Status::ReversalAsked(_));
+            asked.timed(here.customer, number, REVERSING, is_asked)
+        }
+        Trade::Amend { number, quantity } => asked.amend(number, quantity),
     }
 }

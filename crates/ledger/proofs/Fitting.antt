@@ -3,21 +3,26 @@
 use mathlib.Core.Path.{◌≡◌, refl, sym, ap, subst, ◌∙◌}
 use mathlib.Core.Bool.{Bool, true, false, and-false}
 use mathlib.Core.List.{List}
-use Prim.Native.Nat.{ℕ, ◌+◌, ◌-◌, ◌≤◌, ◌<◌}
+use Prim.Native.Nat.{ℕ, ◌≤◌, ◌<◌}
 use native.Mathlib.Decide.{dec_lt}
 use native.Mathlib.Omega.{arith}
+use borrow.Author.Tests.{not-true, not-false}
 use lib.ListN.{length, get_or, replicate, get_or-eq_default}
+use Rattle.std.proofs.lemmas.List.{get_or_past}
 use Rattle.units.proofs.Caps.{capped_fits}
 use Rattle.book.specs.declared.Allocation.{Allocation}
 use Rattle.book.specs.Book.{Book, fresh, account, is_open, no_account, no_allocation, participants, most_given, most_quantity, most_net, level_places}
 use Rattle.book.specs.Words.{pending_in, accepted_in, received_in, total}
+use Rattle.book.specs.Reasons.{not_registered}
 use Rattle.book.specs.Run.{usable}
 use Rattle.book.proofs.Tables.{blank}
 use Rattle.book.proofs.Sums.{total_none}
 use Rattle.book.proofs.Sound.{Opened, opened_of, fresh_of, fresh_lengths}
 use Rattle.book.proofs.Bounds.{pending_most, accepted_most, received_most, price_most, generator_below, customer_below}
-use Rattle.ledger.specs.Ready.{LevelsFit, TotalsFit, Totalled, MonthFits, AccountFits}
-use Rattle.sound.specs.Check.{CappedTotals}
+use Rattle.sound.specs.declared.made.Totals.{Totals}
+use Rattle.ledger.proofs.Passed.{has_account}
+use Rattle.ledger.specs.Ready.{LevelsFit, SumsFit, TotalsFit, Totalled, MonthFits, AccountFits}
+use Rattle.sound.specs.Check.{no_totals, CappedTotals}
 
 -- what holds of every open book and of the fresh one
 pub by_kind : (P : Book → Type 0) → ((b : Book) → Opened b → P b) → P fresh → (b : Book) → usable b ≡ true → P b
@@ -81,7 +86,7 @@ low_totals =
     })
 
 -- no total of a usable book is capped
-pub totalled : (b : Book) (ts : List ℕ) → usable b ≡ true → CappedTotals ts b.ledger → Totalled ts b.ledger
+pub totalled : (b : Book) (ts : List Totals) → usable b ≡ true → CappedTotals ts b.ledger → Totalled ts b.ledger
 totalled b ts u c =
     let low = low_totals b u in
     record {
@@ -91,23 +96,20 @@ totalled b ts u c =
       received = λ p l. c.received p l ∙ capped_fits (total (received_in p) b.ledger) (omega (arith, low.received p l));
     }
 
-pub totals_fit : (b : Book) (ts : List ℕ) → usable b ≡ true → Totalled ts b.ledger → TotalsFit ts
-totals_fit b ts u t = record { long = t.long; low = λ i l. by i l (dec_lt i 32) (dec_lt i 64) }
+pub totals_fit : (b : Book) (ts : List Totals) → usable b ≡ true → Totalled ts b.ledger → TotalsFit ts
+totals_fit b ts u t = record { long = t.long; low = λ p. by p (dec_lt p participants) }
   where
     low : LowTotals b
     low = low_totals b u
 
-    -- place i is one of three participants' places
-    by : (i : ℕ) → i < 96 → Dec (i < 32) → Dec (i < 64) → get_or ts i 0 ≤ most_net
-    by i l (yes a) c = omega (arith, t.pending i a, low.pending i a)
-    by i l (no a) (yes c) =
-        let e : 32 + (i - 32) ≡ i = omega arith in
-        let p : i - 32 < participants = omega arith in
-        subst (λ k. get_or ts k 0 ≤ most_net) e (omega (arith, t.made (i - 32) p, low.made (i - 32) p))
-    by i l (no a) (no c) =
-        let e : 64 + (i - 64) ≡ i = omega arith in
-        let p : i - 64 < participants = omega arith in
-        subst (λ k. get_or ts k 0 ≤ most_net) e (omega (arith, t.received (i - 64) p, low.received (i - 64) p))
+    -- past the last participant there are none
+    by : (p : ℕ) → Dec (p < participants) → SumsFit (get_or ts p no_totals)
+    by p (yes l) = record {
+      pending = omega (arith, t.pending p l, low.pending p l);
+      made = omega (arith, t.made p l, low.made p l);
+      received = omega (arith, t.received p l, low.received p l);
+    }
+    by p (no l) = rw (get_or_past ts p no_totals (omega (arith, t.long))) (record { pending = omega arith; made = omega arith; received = omega arith })
 
 -- ---- the tables, and the parties of every record
 pub accounts_long : (b : Book) → usable b ≡ true → length b.accounts ≡ participants
@@ -116,20 +118,27 @@ accounts_long = by_kind (λ b. length b.accounts ≡ participants) (λ b o. o.le
 pub ledger_long : (b : Book) → usable b ≡ true → length b.ledger ≡ most_given
 ledger_long = by_kind (λ b. length b.ledger ≡ most_given) (λ b o. o.lengths.ledger) fresh_lengths.ledger
 
-pub record Parties (a : Allocation) : Type 0 where
-  pub generator : a.generator < participants
-  pub customer : a.customer < participants
+abbrev pub Parties : Allocation → Type 0
+Parties a = (a.generator < participants) × (a.customer < participants)
 
 pub parties : (b : Book) → usable b ≡ true → (i : ℕ) → Parties (get_or b.ledger i no_allocation)
 parties = by_kind (λ b. (i : ℕ) → Parties (get_or b.ledger i no_allocation)) (λ b o i. by b o i (dec_lt i b.month.given)) (λ i. rw (blank most_given i no_allocation) none)
   where
     none : Parties no_allocation
-    none = record { generator = omega arith; customer = omega arith }
+    none = (omega arith, omega arith)
 
     by : (b : Book) → Opened b → (i : ℕ) → Dec (i < b.month.given) → Parties (get_or b.ledger i no_allocation)
-    by b o i (yes l) = record { generator = generator_below o (o.given i l); customer = customer_below o (o.given i l) }
+    by b o i (yes l) = (generator_below o (o.given i l), customer_below o (o.given i l))
     by b o i (no l) = rw (o.later i (omega arith)) none
+
+-- each number that was given has a record
+pub few_given : (b : Book) → usable b ≡ true → b.month.given ≤ most_given
+few_given = by_kind (λ b. b.month.given ≤ most_given) (λ b o. o.month.given) (omega arith)
 
 -- the next record is empty
 pub next_empty : (b : Book) → usable b ≡ true → get_or b.ledger b.month.given no_allocation ≡ no_allocation
 next_empty = by_kind (λ b. get_or b.ledger b.month.given no_allocation ≡ no_allocation) (λ b o. o.later b.month.given (omega arith)) (blank most_given 0 no_allocation)
+
+-- who is registered has an account
+pub registered_below : (b : Book) → usable b ≡ true → (p : ℕ) → not_registered b p ≡ false → p < participants
+registered_below b u p e = omega (arith, has_account b.accounts p (not-true _ (not-false _ e)), accounts_long b u)

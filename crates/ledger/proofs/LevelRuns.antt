@@ -1,44 +1,42 @@
--- What one level more adds to a search for a level in the way, and to a run of changed levels: each by its definition, at `n + 1`. Assumes nothing.
-use mathlib.Core.Path.{◌≡◌, refl, ap, ◌∙◌}
-use mathlib.Core.Logic.{◌≢◌}
-use mathlib.Core.Bool.{Bool, false, ◌||◌}
-use mathlib.Core.List.{List}
-use Prim.Native.Nat.{ℕ, zero, suc, ◌+◌, ◌≤◌}
-use native.Mathlib.Numerals.{add-one}
-use native.Mathlib.Omega.{arith}
-use lib.ListN.{get_or, set}
-use lib.Seq.{get_or-set_other}
+-- The levels of a part of the table, searched or changed as a list, against the definitions, which go from place to place. Assumes nothing.
+use Rattle.std.proofs.Common.{◌≡◌, refl, sym, ap, ◌∙◌, Bool, ℕ, zero, suc, ◌+◌, ◌-◌, ◌≤◌, List, ◌∷◌, ◌++◌, length, take, drop, append_assoc, get_or, set, map, arith, add-one, add-zero, add-suc, drop-cons, length-drop}
+use Rattle.std.proofs.Math.Bool.{or-false}
+use Rattle.std.proofs.Math.Nat.{sub_self}
+use Rattle.std.specs.List.{between, list_any}
+use Rattle.std.proofs.lemmas.List.{set-append_right, take-append-drop, length-take-le, length-map, map-append, get_or-drop}
+use Rattle.std.proofs.lemmas.List.Edits.{between_none, between_more, length-between}
+use Rattle.std.proofs.lemmas.List.Folds.{list_any-append}
+use borrow.Rule.Slice.PartMut.{put_mid}
 use Rattle.book.specs.Reasons.{some}
 use Rattle.book.specs.Steps.{changed}
 use Rattle.ledger.specs.Judging.{blocks, blocked_in}
 
--- one level more to look at
-pub blocked_none : (creates : Bool) (q : ℕ) (lv : List ℕ) (from : ℕ) → blocked_in creates q lv from 0 ≡ false
+-- so many levels from a place on, searched
+pub blocked_is : (creates : Bool) (q : ℕ) (lv : List ℕ) (from n : ℕ) → from + n ≤ length lv
+    → list_any (blocks creates q) (between from (from + n) lv) ≡ blocked_in creates q lv from n
 unfolding blocked_in some
-blocked_none creates q lv from = refl
+blocked_is creates q lv from zero h = rw (add-zero, between_none)
+blocked_is creates q lv from (suc n) h =
+    rw (add-suc, ← add-one (from + n), between_more lv from (from + n) 0 (omega arith) (omega arith), list_any-append, blocked_is creates q lv from n (omega arith), or-false)
 
-pub blocked_more : (creates : Bool) (q : ℕ) (lv : List ℕ) (from n : ℕ) → blocked_in creates q lv from (n + 1) ≡ (blocked_in creates q lv from n || blocks creates q (get_or lv (from + n) 0))
-unfolding blocked_in some
-blocked_more creates q lv from n = rw (add-one n)
+-- a part that is written as it was
+pub unwritten : (lv : List ℕ) (from k : ℕ) → put_mid from k lv (take k (drop from lv)) ≡ lv
+unwritten lv from k = ap (λ ys. take from lv ++ ys) (take-append-drop k (drop from lv)) ∙ take-append-drop from lv
 
--- one level more to change
-module _ (f : ℕ → ℕ) (lv : List ℕ) (from : ℕ) where
-  pub changed_none : changed f lv from 0 ≡ lv
-  unfolding changed
-  changed_none = refl
-
-  -- the levels that come later are still as they were
-  later : (n j : ℕ) → from + n ≤ j → get_or (changed f lv from n) j 0 ≡ get_or lv j 0
-  unfolding changed
-  later zero j h = refl
-  later (suc n) j h =
-      let ne : j ≢ from + n = omega arith in
-      get_or-set_other (changed f lv from n) (from + n) j (f (get_or lv (from + n) 0)) 0 ne ∙ later n j (omega arith)
-
-  module _ (xs : List ℕ) (n : ℕ) (e : xs ≡ changed f lv from n) where
-    pub changed_next : get_or xs (from + n) 0 ≡ get_or lv (from + n) 0
-    changed_next = ap (λ ys. get_or ys (from + n) 0) e ∙ later n (from + n) (omega arith)
-
-    pub changed_more : set xs (from + n) (f (get_or xs (from + n) 0)) ≡ changed f lv from (n + 1)
-    unfolding changed
-    changed_more = rw (add-one n, changed_next) (ap (λ ys. set ys (from + n) (f (get_or lv (from + n) 0))) e)
+-- and one of which each level is changed
+pub changed_is : (f : ℕ → ℕ) (lv : List ℕ) (from n k : ℕ) → k ≡ n → from + n ≤ length lv → put_mid from k lv (map f (between from (from + n) lv)) ≡ changed f lv from n
+unfolding changed
+changed_is f lv from zero k e h = rw (e, add-zero, between_none) (take-append-drop from lv)
+changed_is f lv from (suc n) k e h =
+    let x : ℕ = get_or lv (from + n) 0 in
+    let before : List ℕ = map f (between from (from + n) lv) in
+    let after : List ℕ = drop (suc n) (drop from lv) in
+    let at : drop n (drop from lv) ≡ x ∷ after = drop-cons (drop from lv) n 0 (omega (arith, length-drop from lv)) ∙ rw (get_or-drop from lv n 0) in
+    let back : from + n - from ≡ n = omega arith in
+    let long : length before ≡ n = length-map (between from (from + n) lv) f ∙ length-between lv from (from + n) (omega arith) ∙ back in
+    let written : set (changed f lv from n) (from + n) (f x) ≡ take from lv ++ (before ++ f x ∷ after) =
+    ap (λ ys. set ys (from + n) (f x)) (sym (changed_is f lv from n n refl (omega arith)))
+    ∙ set-append_right (take from lv) (before ++ drop n (drop from lv)) from (from + n) (f x) (length-take-le from lv (omega arith)) (omega arith)
+    ∙ ap (λ ys. take from lv ++ ys) (ap (λ m. set (before ++ drop n (drop from lv)) m (f x)) back ∙ ap (λ ys. set (before ++ ys) n (f x)) at
+    ∙ set-append_right before (x ∷ after) n n (f x) long (omega arith) ∙ ap (λ m. before ++ set (x ∷ after) m (f x)) (sub_self n)) in
+    rw (e, add-suc, ← add-one (from + n), between_more lv from (from + n) 0 (omega arith) (omega arith), map-append, append_assoc) (sym written)

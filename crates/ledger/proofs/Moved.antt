@@ -1,22 +1,25 @@
 -- The table of totals stays that of the ledger when one record is replaced by another of the same parties, or an empty one is filled. By columns: a
 -- participant's total less what the old record gave it, with what the new one gives, is its total in the new ledger (`column`). Assumes nothing.
-use mathlib.Core.Path.{◌≡◌, refl, sym, ap, ◌∙◌, subst}
-use mathlib.Core.Logic.{◌⊎◌, inl, inr, ◌≢◌}
+use mathlib.Core.Path.{◌≡◌, refl, sym, ap, ◌∙◌}
+use mathlib.Core.Logic.{◌⊎◌, inl, inr}
 use mathlib.Core.Bool.{Bool, true, false, cond, ◌&&◌}
 use mathlib.Core.List.{List}
 use Prim.Native.Nat.{ℕ, ◌+◌, ◌-◌, ◌≤◌, ◌<◌}
+use native.Mathlib.Nat.{le_refl}
+use native.Mathlib.Decide.{ℕ_discrete}
 use native.Mathlib.Omega.{arith}
 use lib.Dec.{eqb}
 use lib.ListN.{length, get_or, set, length-set}
 use lib.Seq.{get_or-set_same, get_or-set_other}
-use borrow.Author.Tests.{eqb-true, eqb-false, eq-eqb}
+use borrow.Author.Tests.{eq-eqb, ne_eqb}
 use Rattle.book.specs.declared.Allocation.{Allocation}
 use Rattle.book.specs.Book.{no_allocation, participants, most_quantity}
 use Rattle.book.specs.Words.{is_pending, is_accepted, pending_in, accepted_in, received_in, total}
-use Rattle.book.proofs.Tests.{and_left, and_right}
 use Rattle.book.proofs.Sums.{total-set}
 use Rattle.reasons.specs.Parts.{pends, counts}
-use Rattle.ledger.specs.Writing.{totals_after}
+use Rattle.sound.specs.declared.made.Totals.{Totals}
+use Rattle.sound.specs.Check.{no_totals}
+use Rattle.ledger.specs.Writing.{generator_after, customer_after, totals_after}
 use Rattle.ledger.specs.Ready.{TotalsFit, Totalled, TotalsMove}
 
 -- a record of the same parties, or one in an empty place
@@ -47,7 +50,6 @@ module _ (key : Allocation → ℕ) (test : Allocation → Bool) where
   record Column (l : List Allocation) (i : ℕ) (old new : Allocation) : Type 0 where
     room : given old ≤ total (share (key new)) l
     moved : (p before : ℕ) → before ≡ total (share p) l → cond (eqb (key new) p) (before - given old + given new) before ≡ total (share p) (set l i new)
-    kept : given old ≡ given new → (p before : ℕ) → before ≡ total (share p) l → before ≡ total (share p) (set l i new)
 
   module _ (l : List Allocation) (i : ℕ) (old new : Allocation) (inside : i < length l) (here : get_or l i no_allocation ≡ old) (parties : (key old ≡ key new) ⊎ (old ≡ no_allocation)) where
     -- what the old record gave, it gave the new one's participant
@@ -70,7 +72,6 @@ module _ (key : Allocation → ℕ) (test : Allocation → Bool) where
     column = record {
       room = rw (eq-eqb (key new) (key new) refl) at (old_part (key new));
       moved = λ p before e. by (eqb (key new) p) before (rw (← e) at (old_part p)) (rw (← e) at (new_total p));
-      kept = λ same p before e. omega (arith, new_total p, ap (λ n. cond (eqb (key new) p) n 0) same);
     }
       where
         by : {after : ℕ} (t : Bool) (before : ℕ) → cond t (given old) 0 ≤ before → after + cond t (given old) 0 ≡ before + cond t (given new) 0 → cond t (before - given old + given new) before ≡ after
@@ -78,13 +79,22 @@ module _ (key : Allocation → ℕ) (test : Allocation → Bool) where
         by false before part e = omega arith
 
 -- ---- the table
--- a place j of l, which is there as in m, after the place k of a participant g was moved as m says; j is that of a participant p
-moved_at : (l m : List ℕ) (k j g p x y : ℕ) → k < length l → (g ≡ p → k ≡ j) → (g ≢ p → j ≢ k) → get_or l j 0 ≡ get_or m j 0 → get_or (set l k (get_or m k 0 - x + y)) j 0 ≡ cond (eqb g p) (get_or m j 0 - x + y) (get_or m j 0)
-moved_at l m k j g p x y inside same other e = by (eqb g p) refl
-  where
-    by : (t : Bool) → eqb g p ≡ t → get_or (set l k (get_or m k 0 - x + y)) j 0 ≡ cond t (get_or m j 0 - x + y) (get_or m j 0)
-    by true h = subst (λ n. get_or (set l k (get_or m k 0 - x + y)) n 0 ≡ get_or m n 0 - x + y) (same (eqb-true g p h)) (get_or-set_same l k (get_or m k 0 - x + y) 0 inside)
-    by false h = get_or-set_other l k j (get_or m k 0 - x + y) 0 (other (eqb-false g p h)) ∙ e
+-- one of the three totals of participant p, once the totals of participant k are x: it stays where x has k's own, and where x has k's moved it is moved for k
+module _ (f : Totals → ℕ) (ts : List Totals) (k p : ℕ) (x : Totals) (inside : k < length ts) where
+  pub stays : f x ≡ f (get_or ts k no_totals) → f (get_or (set ts k x) p no_totals) ≡ f (get_or ts p no_totals)
+  stays e = by (ℕ_discrete p k)
+    where
+      by : Dec (p ≡ k) → f (get_or (set ts k x) p no_totals) ≡ f (get_or ts p no_totals)
+      by (yes s) = rw (s, get_or-set_same ts k x no_totals inside) e
+      by (no d) = ap f (get_or-set_other ts k p x no_totals d)
+
+  moves_at : (gave gives : ℕ) → f x ≡ f (get_or ts k no_totals) - gave + gives
+      → f (get_or (set ts k x) p no_totals) ≡ cond (eqb k p) (f (get_or ts p no_totals) - gave + gives) (f (get_or ts p no_totals))
+  moves_at gave gives e = by (ℕ_discrete p k)
+    where
+      by : Dec (p ≡ k) → f (get_or (set ts k x) p no_totals) ≡ cond (eqb k p) (f (get_or ts p no_totals) - gave + gives) (f (get_or ts p no_totals))
+      by (yes s) = rw (s, eq-eqb k k refl, get_or-set_same ts k x no_totals inside) e
+      by (no d) = rw (ne_eqb k p (λ e. d (sym e)), get_or-set_other ts k p x no_totals d)
 
 by_generator : {old new : Allocation} → Replaces old new → (old.generator ≡ new.generator) ⊎ (old ≡ no_allocation)
 by_generator (rewritten g c) = inl g
@@ -94,11 +104,8 @@ by_customer : {old new : Allocation} → Replaces old new → (old.customer ≡ 
 by_customer (rewritten g c) = inl c
 by_customer (filled e) = inr e
 
-whichever : {m : List Allocation} (t : Bool) (x y : List ℕ) → (t ≡ true → Totalled x m) → Totalled y m → Totalled (cond t x y) m
-whichever true x y p q = p refl
-whichever false x y p q = q
-
-module _ (ts : List ℕ) (l : List Allocation) (i : ℕ) (old new : Allocation) (totals : Totalled ts l) (inside : i < length l) (here : get_or l i no_allocation ≡ old) (parties : Replaces old new) where
+module _ (ts : List Totals) (l : List Allocation) (i : ℕ) (old new : Allocation) (totals : Totalled ts l) (inside : i < length l) (here : get_or l i no_allocation ≡ old) (parties : Replaces old new)
+    (generator : new.generator < participants) (customer : new.customer < participants) where
   pending : Column (λ a. a.generator) (λ a. is_pending a.status) l i old new
   pending = column _ _ l i old new inside here (by_generator parties)
 
@@ -108,63 +115,56 @@ module _ (ts : List ℕ) (l : List Allocation) (i : ℕ) (old new : Allocation) 
   received : Column (λ a. a.customer) (λ a. is_accepted a.status) l i old new
   received = column _ _ l i old new inside here (by_customer parties)
 
-  -- the record gives as much as before
-  kept : pends old ≡ pends new → counts old ≡ counts new → Totalled ts (set l i new)
-  unfolding pending_in accepted_in received_in
-  kept pend count = record {
-    long = totals.long;
-    pending = λ p h. pending.kept pend p _ (totals.pending p h);
-    made = λ p h. made.kept count p _ (totals.made p h);
-    received = λ p h. received.kept count p _ (totals.received p h);
+  -- the two writes, one after the other
+  abbrev made_by : Totals
+  made_by = generator_after old new (get_or ts new.generator no_totals)
+
+  abbrev one : List Totals
+  one = set ts new.generator made_by
+
+  abbrev received_by : Totals
+  received_by = customer_after old new (get_or one new.customer no_totals)
+
+  in_table : new.generator < length ts
+  in_table = omega (arith, totals.long)
+
+  in_one : new.customer < length one
+  in_one = simp length-set (omega (arith, totals.long))
+
+  pub totalled_after : Totalled (totals_after old new ts) (set l i new)
+  unfolding totals_after pending_in accepted_in received_in
+  totalled_after = record {
+    long = simp length-set totals.long;
+    pending = λ p h.
+        stays (λ s. s.pending.0) one new.customer p received_by in_one refl
+        ∙ moves_at (λ s. s.pending.0) ts new.generator p made_by in_table (pends old) (pends new) refl
+        ∙ pending.moved p _ (totals.pending p h);
+    made = λ p h.
+        stays (λ s. s.made.0) one new.customer p received_by in_one refl
+        ∙ moves_at (λ s. s.made.0) ts new.generator p made_by in_table (counts old) (counts new) refl
+        ∙ made.moved p _ (totals.made p h);
+    received = λ p h.
+        moves_at (λ s. s.received.0) one new.customer p received_by in_one (counts old) (counts new) refl
+        ∙ ap (λ n. cond (eqb new.customer p) (n - counts old + counts new) n) (stays (λ s. s.received.0) ts new.generator p made_by in_table refl)
+        ∙ received.moved p _ (totals.received p h);
   }
 
-  module _ (generator : new.generator < participants) (customer : new.customer < participants) where
-    -- the three places that are written, one after another
-    abbrev one : List ℕ
-    one = set ts new.generator (get_or ts new.generator 0 - pends old + pends new)
+  in_quantity : (t : Bool) → cond t new.quantity.0 0 ≤ new.quantity.0
+  in_quantity true = le_refl new.quantity.0
+  in_quantity false = omega arith
 
-    abbrev two : List ℕ
-    two = set one (32 + new.generator) (get_or ts (32 + new.generator) 0 - counts old + counts new)
-
-    abbrev three : List ℕ
-    three = set two (64 + new.customer) (get_or ts (64 + new.customer) 0 - counts old + counts new)
-
-    moved : Totalled three (set l i new)
-    unfolding pending_in accepted_in received_in
-    moved = record {
-      long = simp length-set totals.long;
-      pending = λ p h.
-          get_or-set_other two (64 + new.customer) p _ 0 (omega arith)
-          ∙ get_or-set_other one (32 + new.generator) p _ 0 (omega arith)
-          ∙ moved_at ts ts new.generator p new.generator p (pends old) (pends new) (omega (arith, totals.long)) (omega arith) (omega arith) refl
-          ∙ pending.moved p _ (totals.pending p h);
-      made = λ p h.
-          get_or-set_other two (64 + new.customer) (32 + p) _ 0 (omega arith)
-          ∙ moved_at one ts (32 + new.generator) (32 + p) new.generator p (counts old) (counts new) (simp length-set (omega (arith, totals.long))) (omega arith) (omega arith)
-          (get_or-set_other ts new.generator (32 + p) _ 0 (omega arith))
-          ∙ made.moved p _ (totals.made p h);
-      received = λ p h.
-          moved_at two ts (64 + new.customer) (64 + p) new.customer p (counts old) (counts new) (simp length-set (omega (arith, totals.long))) (omega arith) (omega arith)
-          (get_or-set_other one (32 + new.generator) (64 + p) _ 0 (omega arith) ∙ get_or-set_other ts new.generator (64 + p) _ 0 (omega arith))
-          ∙ received.moved p _ (totals.received p h);
-    }
-
-    pub totalled_after : Totalled (totals_after old new ts) (set l i new)
-    unfolding totals_after
-    totalled_after =
-        whichever _ ts three
-        (λ e. kept (eqb-true (pends old) (pends new) (and_left _ _ e)) (eqb-true (counts old) (counts new) (and_right (eqb (pends old) (pends new)) _ e)))
-        moved
-
-    -- and the table has room for the move
-    pub totals_move : TotalsFit ts → new.quantity.0 ≤ most_quantity → TotalsMove ts old new
-    unfolding pending_in accepted_in received_in
-    totals_move fit low = record {
-      fit = fit;
-      generator = generator;
-      customer = customer;
-      pended = rw (totals.pending new.generator generator) pending.room;
-      counted_made = rw (totals.made new.generator generator) made.room;
-      counted_received = rw (totals.received new.customer customer) received.room;
-      quantity = low;
-    }
+  -- and the table has room for the move
+  pub totals_move : TotalsFit ts → new.quantity.0 ≤ most_quantity → TotalsMove ts old new
+  unfolding pending_in accepted_in received_in
+  totals_move fit low =
+      let g = fit.low new.generator in
+      let c = fit.low new.customer in
+      let pends_low = in_quantity (is_pending new.status) in
+      let counts_low = in_quantity (is_accepted new.status) in
+      record {
+        generator = in_table;
+        customer = omega (arith, totals.long);
+        pending = record { held = rw (totals.pending new.generator generator) pending.room; room = omega (arith, g.pending) };
+        made = record { held = rw (totals.made new.generator generator) made.room; room = omega (arith, g.made) };
+        received = record { held = rw (totals.received new.customer customer) received.room; room = omega (arith, c.received) };
+      }

@@ -1,24 +1,17 @@
 -- Signed machine arithmetic by magnitudes: a `Number` is bits, the number that they are read as, and a bound on its magnitude. There is one law for each
 -- operation, so that the proof of an expression's safety and value mirrors the expression. Assumes nothing.
-use mathlib.Core.Path.{◌≡◌, refl, ◌∙◌, subst}
-use mathlib.Core.Bool.{false}
-use Prim.Native.Nat.{ℕ, suc, ◌+◌, ◌*◌, ◌^◌, ◌≤◌}
-use native.Mathlib.Nat.{le_refl, le_trans, lt_of_le_of_lt, lt_of_lt_of_le, mul-le-mul}
+use mathlib.Core.Path.{◌≡◌, ◌∙◌}
+use Prim.Native.Nat.{ℕ, ◌+◌, ◌*◌, ◌^◌, ◌≤◌}
+use native.Mathlib.Nat.{le_refl, le_trans, lt_of_le_of_lt, mul-le-mul}
 use native.Mathlib.Omega.{arith}
-use lib.Dec.{T, ltb, leb, ltb→lt, leb→le}
+use Rattle.std.proofs.lemmas.Int.{unsigned_abs-mul}
+use lib.Dec.{T, ltb, ltb→lt}
 use lib.IntN.{ℤ, pos, negsuc, nat_abs, ◌+ℤ◌, ◌-ℤ◌, ◌*ℤ◌}
-use lib.Pow.{pow_mono}
-use lib.Signed.{mag, lt_z, non_neg}
-use mir.Syntax.{Width, w32, w64}
-use mir.Val.{to_z, of_z, SFits, Fits, bits, hbits}
+use lib.Signed.{mag}
+use mir.Syntax.{Width}
+use mir.Val.{to_z, of_z, SFits, hbits}
 use mir.ValLaws.{to_z-of_z, to_z_pos}
-use Rattle.book.proofs.Magnitudes.{abs_neg, abs-add, abs_less}
-
-abs-mul : (x y : ℤ) → nat_abs (x *ℤ y) ≡ nat_abs x * nat_abs y
-abs-mul (pos a) (pos b) = refl
-abs-mul (pos a) (negsuc b) = abs_neg (pos (a * suc b))
-abs-mul (negsuc a) (pos b) = abs_neg (pos (suc a * b))
-abs-mul (negsuc a) (negsuc b) = refl
+use Rattle.book.proofs.Magnitudes.{abs-add, abs_less}
 
 mag_most : (z : ℤ) → mag z ≤ nat_abs z
 mag_most (pos n) = le_refl n
@@ -43,13 +36,6 @@ signed w z most low t = record { held = of_z w z; value = z; most = most; is = t
 abbrev pub unsigned : (w : Width) (n most : ℕ) → n ≤ most → T (ltb most (2 ^ hbits w)) → Number w
 unsigned w n most low t = record { held = n; value = pos n; most = most; is = to_z_pos w n (lt_of_le_of_lt low (ltb→lt most (2 ^ hbits w) t)); low = low }
 
--- of 32 bits, in 64
-pub word_low : {n : ℕ} → Fits w32 n → n ≤ 4294967295
-word_low f = omega (arith, f.fits)
-
-abbrev pub word : (n : ℕ) → Fits w32 n → Number w64
-word n f = unsigned w64 n 4294967295 (word_low f) tt
-
 abbrev pub literal : (w : Width) (n : ℕ) → T (ltb n (2 ^ hbits w)) → Number w
 literal w n t = unsigned w n n (le_refl n) t
 
@@ -60,7 +46,7 @@ also p z e = record { held = p.held; value = z; most = p.most; is = p.is ∙ e; 
 -- each operation: what it asks, and its value
 module _ {w : Width} (p q : Number w) where
   pub mul_low : nat_abs (p.value *ℤ q.value) ≤ p.most * q.most
-  mul_low = rw (abs-mul p.value q.value) (mul-le-mul p.low q.low)
+  mul_low = rw (unsigned_abs-mul p.value q.value) (mul-le-mul p.low q.low)
 
   pub add_low : nat_abs (p.value +ℤ q.value) ≤ p.most + q.most
   add_low = omega (arith, abs-add p.value q.value, p.low, q.low)
@@ -85,8 +71,3 @@ module _ {w : Width} (p q : Number w) where
 
   abbrev pub sub : T (ltb (p.most + q.most) (2 ^ hbits w)) → Number w
   sub t = record { held = of_z w (to_z w p.held -ℤ to_z w q.held); value = p.value -ℤ q.value; most = p.most + q.most; is = to_z-of_z w _ (sub_fits t) ∙ (λ i. p.is i -ℤ q.is i); low = sub_low }
-
--- what a cast to an unsigned type asks of a number that is not below zero
-pub cast_back : (w u : Width) (z : ℤ) → SFits w z → lt_z z (pos 0) ≡ false → T (leb (hbits w) (bits u)) → T (non_neg z) × Fits u (nat_abs z)
-cast_back w u (pos n) f h t = (tt, record { fits = lt_of_lt_of_le f.sfits (pow_mono (leb→le (hbits w) (bits u) t)) })
-cast_back w u (negsuc n) f h t = absurd (subst T h tt)

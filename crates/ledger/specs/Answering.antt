@@ -5,7 +5,7 @@ use Rattle.book.specs.declared.Allocation.{Allocation}
 use Rattle.book.specs.Book.{Book}
 use Rattle.book.specs.Run.{record_book, record_answer}
 use Rattle.sound.specs.Check.{book_from}
-use Rattle.ledger.specs.declared.stepped.Stepped.{Stepped}
+use Rattle.ledger.specs.Writing.{Stepped}
 
 -- the book that is left and the answer are those of document 01
 pub record Answers (b : Book) (bytes : List ℕ) (r : Stepped) (accounts : List Account) (lv : List ℕ) (ledger : List Allocation) : Type 0 where

@@ -1,19 +1,21 @@
-// The levels room: CREATE and TERMINATE. It is lent the levels, and reads the month and the
+// The levels room: CREATE and TERMINATE. It is lent the month and the levels, and reads the
 // accounts; ledger and totals it does not see.
-ghost use Rattle.std.specs.Prelude.{◌≡◌, ◌+◌, ◌≤◌, ◌<◌, length};
+ghost use Rattle.std.specs.Prelude.{◌≡◌, ℕ, ◌+◌, ◌≤◌, ◌<◌, length, get_or, map, IfOk, IfSome};
+ghost use Rattle.std.specs.List.{list_any};
 ghost use Rattle.book.specs.Book.{participants, most_days, most_level, level_places};
 ghost use Rattle.book.specs.Words.{level_place};
 ghost use Rattle.book.specs.Steps.{changed};
+ghost use Rattle.reasons.specs.Numbers.{reason_said};
+ghost use Rattle.gate.specs.Rooms.{creates};
 ghost use Rattle.ledger.specs.Ready.{LevelsFit};
 ghost use Rattle.ledger.specs.Judging.{blocks, blocked_in};
-ghost use Rattle.ledger.specs.Writing.{moved_by};
+ghost use Rattle.ledger.specs.Writing.{moved_by, stepped};
 ghost use Rattle.ledger.specs.Rooms.{StepFits, Moved, Known, Credited, LevelsRoom};
 
-use crate::lent::account_at;
-use crate::stepped::{Stepped, answered};
-use book::{Account, Month};
-use gate::{LevelStep, levels_reason};
-use reasons::{LEVEL_PASSED, MOST_LEVEL, either, roles_of, slot_of};
+use crate::lent::get;
+use book::{Account, Month, NO_ACCOUNT};
+use gate::{LevelChange, LevelStep, levels_reason};
+use reasons::{MOST_LEVEL, Reason};
 
 // The place of a level in the table.
 fn level_place(participant: u8, kind: u8, day: u8) -> usize
@@ -23,91 +25,76 @@ fn level_place(participant: u8, kind: u8, day: u8) -> usize
     participant as usize * 124 + (kind as usize - 1) * 31 + (day as usize - 1)
 }
 
-// A level that a CREATE of q would pass, or that a TERMINATE of q takes more than.
-fn is_blocked(creates: bool, q: u32, level: u32) -> bool
-    requires { (q ≤ most_level) × (level ≤ most_level) }
-    ensures { result ≡ blocks creates q level }
+// Whether some level is in the way: one that a CREATE of q would pass, or that a TERMINATE of q takes
+// more than.
+fn any_blocked(change: LevelChange, q: u32, levels: &[u32]) -> bool
+    requires { q ≤ most_level }
+    ensures { result ≡ list_any (blocks (creates change) q) levels.now }
 {
-    if creates {
-        MOST_LEVEL < level + q
-    } else {
-        level < q
+    match change {
+        LevelChange::Create => levels.iter().any(|level| MOST_LEVEL - q < *level),
+        LevelChange::Terminate => levels.iter().any(|level| *level < q),
     }
-}
-
-// Whether some level from a place on, so many of them, is in the way.
-fn any_blocked(creates: bool, q: u32, levels: &[u32], from: usize, days: usize) -> bool
-    requires { LevelsFit levels.now × ((from + days ≤ level_places) × (q ≤ most_level)) }
-    ensures { result ≡ blocked_in creates q levels.now from days }
-{
-    let mut found = false;
-    let mut i: usize = 0;
-    while i < days {
-        let blocked = is_blocked(creates, q, levels[from + i]);
-        found = either(found, blocked);
-        i += 1;
-    }
-    found
 }
 
 // One level, raised or lowered by q.
-fn moved(creates: bool, q: u32, level: u32) -> u32
+fn moved(change: LevelChange, q: u32, level: u32) -> u32
     requires { (q ≤ most_level) × (level ≤ most_level) }
-    ensures { result ≡ moved_by creates q level }
+    ensures { result ≡ moved_by (creates change) q level }
 {
-    if creates {
-        return level + q;
+    match change {
+        LevelChange::Create => level + q,
+        LevelChange::Terminate => level.saturating_sub(q),
     }
-    if level < q {
-        return 0;
-    }
-    level - q
 }
 
-// So many levels from a place on, each raised or lowered by q.
-fn move_levels(creates: bool, q: u32, levels: &mut [u32], from: usize, days: usize)
-    requires { LevelsFit levels.old × ((from + days ≤ level_places) × (q ≤ most_level)) }
-    ensures { levels.new ≡ changed (moved_by creates q) levels.old from days }
+// Each level, raised or lowered by q.
+fn move_levels(change: LevelChange, q: u32, levels: &mut [u32])
+    requires { (q ≤ most_level) × ((i : ℕ) → i < length levels.old → get_or levels.old i 0 ≤ most_level) }
+    ensures { levels.new ≡ map (moved_by (creates change) q) levels.old }
 {
-    let mut i: usize = 0;
-    while i < days {
-        levels[from + i] = moved(creates, q, levels[from + i]);
-        i += 1;
+    for level in levels.iter_mut() {
+        *level = moved(change, q, *level);
     }
 }
 
 // Reason 14, or the levels from the step's day to D raised or lowered.
-fn credit(m: Month, levels: &mut [u32], x: LevelStep) -> u8
+fn credit(m: Month, levels: &mut [u32], x: LevelStep) -> Result<(), Reason>
     requires { LevelsFit levels.old × StepFits m x }
-    ensures { Moved m levels.old x result levels.new }
+    ensures { Moved m levels.old x (reason_said result) levels.new }
 {
     let from = level_place(x.participant, x.kind, x.day);
     let days = m.days as usize + 1 - x.day as usize;
-    if any_blocked(x.creates, x.quantity.0, &*levels, from, days) {
-        return LEVEL_PASSED;
+    let credited = &mut levels[from..from + days];
+    if any_blocked(x.change, x.quantity.0, credited) {
+        return Err(Reason::LevelPassed);
     }
-    move_levels(x.creates, x.quantity.0, &mut *levels, from, days);
-    0
+    move_levels(x.change, x.quantity.0, credited);
+    Ok(())
 }
 
-// The reason, or 0, and the levels, moved where the step is done.
-fn on_levels(m: Month, roles: u8, levels: &mut [u32], x: LevelStep) -> u8
+// The reason, or the levels moved.
+fn on_levels(m: Month, roles: u8, levels: &mut [u32], x: LevelStep) -> Result<(), Reason>
     requires { LevelsFit levels.old × ((m.days ≤ most_days) × Known roles x.participant) }
-    ensures { Credited m roles levels.old x result levels.new }
+    ensures { Credited m roles levels.old x (reason_said result) levels.new }
 {
-    let reason = levels_reason(m, roles, x);
-    if reason != 0 {
-        return reason;
-    }
-    credit(m, &mut *levels, x)
+    levels_reason(m, roles, x)?;
+    credit(m, levels, x)
 }
 
 // The room.
-pub fn levels_room(m: Month, accounts: &[Account], levels: &mut [u32], x: LevelStep) -> Stepped
-    requires { (length accounts.now ≡ participants) × (LevelsFit levels.old × (m.days ≤ most_days)) }
-    ensures { LevelsRoom m accounts.now levels.old x result levels.new }
+pub fn levels_room(
+    month: &mut Month,
+    accounts: &[Account],
+    levels: &mut [u32],
+    x: LevelStep,
+) -> Result<Option<u16>, Reason>
+    requires { (length accounts.now ≡ participants) × (LevelsFit levels.old × (month.old.days ≤ most_days)) }
+    ensures does { LevelsRoom month.old accounts.now levels.old x (stepped month.new result) levels.new }
+    ensures numbered { IfOk result (λ given. IfSome given (λ n. 0 < n)) }
 {
-    let a = account_at(accounts, slot_of(x.participant));
-    let reason = on_levels(m, roles_of(x.participant, a), &mut *levels, x);
-    answered(m, x.at, reason)
+    let roles = get(accounts, x.participant as usize, NO_ACCOUNT).roles;
+    on_levels(*month, roles, levels, x)?;
+    month.last = x.at;
+    Ok(None)
 }

@@ -1,4 +1,4 @@
-// The operator's cut on an array of records, through the promise of the crate share.
+// The operator's cut on the lent ledger, through the promise of the crate share.
 ghost use Rattle.std.specs.Prelude.{◌≡◌, cond, map, ℕ, ◌≤◌, ◌<◌, length, get_or};
 ghost use Rattle.book.specs.Book.{most_given, most_quantity};
 ghost use Rattle.book.specs.Words.{is_accepted, accepted_in};
@@ -6,7 +6,6 @@ ghost use Rattle.book.specs.Cut.{is_cut, with_quantity, recut, cut};
 ghost use Rattle.ledger.specs.Ready.{CutFits};
 
 use book::{Allocation, Status};
-use reasons::both;
 use share::share;
 use units::Thousandths;
 
@@ -14,25 +13,18 @@ use units::Thousandths;
 fn is_accepted(status: Status) -> bool
     ensures { result ≡ is_accepted status }
 {
-    match status {
-        Status::Empty => false,
-        Status::Submitted => false,
-        Status::Withdrawn => false,
-        Status::Accepted => true,
-        Status::ReversalAsked(_) => true,
-        Status::Reversed => false,
-    }
+    matches!(status, Status::Accepted | Status::ReversalAsked(_))
 }
 
 // Whether a record is one of the generator's accepted allocations.
 pub fn is_cut(generator: u8, l: Allocation) -> bool
     ensures { result ≡ is_cut generator l }
 {
-    let s = l.status;
-    both(l.generator == generator, is_accepted(s))
+    l.generator == generator && is_accepted(l.status)
 }
 
 // What a record weighs in a generator's cut.
+#[tactic(auto, unfolding(book::specs::Words::accepted_in))]
 pub fn weight(generator: u8, l: Allocation) -> u64
     ensures { result ≡ accepted_in generator l }
 {
@@ -44,14 +36,12 @@ pub fn weight(generator: u8, l: Allocation) -> u64
 }
 
 // What each record weighs.
-fn weigh(generator: u8, t: [Allocation; 256], weights: &mut [u64])
-    requires { length weights.old ≡ most_given }
-    ensures { weights.new ≡ map (accepted_in generator) t }
+fn weigh(generator: u8, ledger: &[Allocation], weights: &mut [u64])
+    requires { length weights.old ≡ length ledger.now }
+    ensures { weights.new ≡ map (accepted_in generator) ledger.now }
 {
-    let mut i: usize = 0;
-    while i < 256 {
-        weights[i] = weight(generator, t[i]);
-        i += 1;
+    for (i, w) in weights.iter_mut().enumerate() {
+        *w = weight(generator, ledger[i]);
     }
 }
 
@@ -61,39 +51,31 @@ fn at_quantity(generator: u8, l: Allocation, quantity: u64) -> Allocation
     ensures { result ≡ cond (is_cut generator l) (with_quantity l quantity) l }
 {
     if is_cut(generator, l) {
-        let s = l.status;
-        return Allocation {
-            generator: l.generator,
-            customer: l.customer,
-            quantity: Thousandths(quantity as u32),
-            status: s,
-        };
+        let quantity = Thousandths(quantity as u32);
+        return Allocation { quantity, ..l };
     }
     l
 }
 
 // The records at their new quantities.
-fn recut_by(generator: u8, t: [Allocation; 256], shares: &[u64]) -> [Allocation; 256]
-    requires { (length shares.now ≡ most_given) × ((i : ℕ) → i < most_given → get_or shares.now i 0 ≤ most_quantity) }
-    ensures { result ≡ recut generator t shares.now }
+#[tactic(auto, unfolding(book::specs::Cut::recut))]
+fn recut_by(generator: u8, ledger: &mut [Allocation], shares: &[u64])
+    requires { (length shares.now ≡ length ledger.old) × ((i : ℕ) → i < length ledger.old → get_or shares.now i 0 ≤ most_quantity) }
+    ensures { ledger.new ≡ recut generator ledger.old shares.now }
 {
-    let mut u = t;
-    let mut i: usize = 0;
-    while i < 256 {
-        u[i] = at_quantity(generator, t[i], shares[i]);
-        i += 1;
+    for (i, l) in ledger.iter_mut().enumerate() {
+        *l = at_quantity(generator, *l, shares[i]);
     }
-    u
 }
 
 // The ledger after the cut of a generator to its tradeable credits.
-pub fn cut_to(generator: u8, credits: Thousandths, t: [Allocation; 256]) -> [Allocation; 256]
-    requires { CutFits generator credits.0 t }
-    ensures { result ≡ cut generator credits.0 t }
+pub fn cut_to(generator: u8, credits: Thousandths, ledger: &mut [Allocation])
+    requires { CutFits generator credits.0 ledger.old }
+    ensures { ledger.new ≡ cut generator credits.0 ledger.old }
 {
     let mut weights = [0u64; 256];
     let mut shares = [0u64; 256];
-    weigh(generator, t, &mut weights);
-    share(&weights, credits.0 as u64, &mut shares);
-    recut_by(generator, t, &shares)
+    weigh(generator, ledger, &mut weights);
+    let _ = share(&weights, credits.0 as u64, &mut shares);
+    recut_by(generator, ledger, &shares);
 }

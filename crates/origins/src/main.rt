@@ -1,6 +1,8 @@
 // Which step put each quantity of the ledger: reads a history of step records on standard input, in
 // chunks of whole records, and prints a line for each allocation number given. `audit::follow` finds
 // them, and `answered` of its proofs says that nothing else could have put them.
+//
+// Lines are written by the crate io: println! would make the program rest on os::c::rattle_errno too.
 #![tactic(auto)]
 
 use audit::{Followed, Put};
@@ -12,7 +14,12 @@ const STDIN_FILENO: i32 = 0;
 // Standard output, as the system numbers it.
 const STDOUT_FILENO: i32 = 1;
 
-// A minute with its sign.
+// So many bytes are read at a time: 2,730 records of 24 bytes. Each program has its own loop over
+// them: a public function that takes what to do with a piece would have a `requires`.
+const CHUNK: usize = 65_520;
+
+// A minute with its sign. The program cuts has the same: a library for both would have a public
+// function of which no contract can speak.
 fn show_minute(m: Minutes) {
     if m.0 < 0 {
         io::write_all(STDOUT_FILENO, b"-");
@@ -21,17 +28,11 @@ fn show_minute(m: Minutes) {
 }
 
 // The name of a kind of step that puts a quantity.
-fn show_kind(kind: u8) {
+fn name_of(kind: u8) -> &'static [u8] {
     match kind {
-        audit::SUBMIT => {
-            io::write_all(STDOUT_FILENO, b"SUBMIT");
-        }
-        audit::GENERATOR_AMENDS => {
-            io::write_all(STDOUT_FILENO, b"GENERATOR AMENDS");
-        }
-        _ => {
-            io::write_all(STDOUT_FILENO, b"OPERATOR AMENDS");
-        }
+        audit::SUBMIT => b"SUBMIT",
+        audit::GENERATOR_AMENDS => b"GENERATOR AMENDS",
+        _ => b"OPERATOR AMENDS",
     }
 }
 
@@ -40,77 +41,45 @@ fn show(number: u64, quantity: u32, put: Put) -> bool {
     io::write_all(STDOUT_FILENO, b"allocation ");
     io::print_decimal(STDOUT_FILENO, number);
     io::write_all(STDOUT_FILENO, b": quantity ");
-    io::print_decimal(STDOUT_FILENO, quantity as u64);
+    io::print_decimal(STDOUT_FILENO, u64::from(quantity));
     io::write_all(STDOUT_FILENO, b", put by record ");
     io::print_decimal(STDOUT_FILENO, put.place);
     io::write_all(STDOUT_FILENO, b" (");
-    show_kind(put.kind);
+    io::write_all(STDOUT_FILENO, name_of(put.kind));
     io::write_all(STDOUT_FILENO, b") at minute ");
-    let minute = put.minute;
-    show_minute(minute);
+    show_minute(put.minute);
     io::write_all(STDOUT_FILENO, b"\n")
 }
 
-// The lines of all that were given, up to one that cannot be written.
-fn show_all(followed: Followed) {
-    let month = followed.month;
-    let ledger = followed.ledger;
-    let puts = followed.puts;
-    let given = month.given as usize;
-    let mut i: usize = 0;
-    while i < 256 {
-        if given <= i {
-            return;
+// The lines of all that were given, up to one that cannot be written. Each has a step that put it
+// (`answered`).
+fn show_all(followed: &Followed) {
+    let given = usize::from(followed.book.month.given);
+    let quantities = followed.book.ledger.iter().zip(&followed.puts);
+    for (i, (l, put)) in quantities.enumerate().take(given) {
+        if let Some(put) = put {
+            if !show(i as u64 + 1, l.quantity.0, *put) {
+                return;
+            }
         }
-        let l = ledger[i];
-        let quantity = l.quantity;
-        if !show(i as u64 + 1, quantity.0, puts[i]) {
-            return;
-        }
-        i += 1;
-    }
-}
-
-// So many records more; past the last number that 64 bits hold there is none.
-fn more(done: u64, records: u64) -> u64 {
-    if u64::MAX - done < records {
-        return u64::MAX;
-    }
-    done + records
-}
-
-// The fresh book, with nothing put.
-fn nothing() -> Followed {
-    let month = book::fresh_month();
-    let accounts = book::fresh_accounts();
-    let ledger = book::fresh_ledger();
-    let puts = audit::nothing_put();
-    Followed {
-        month,
-        accounts,
-        ledger,
-        puts,
     }
 }
 
 fn main() {
     let mut levels = book::fresh_levels();
-    let mut chunk = [0u8; 65520];
-    let mut followed = nothing();
+    let mut chunk = [0u8; CHUNK];
+    let mut followed = Followed {
+        book: book::fresh_whole(),
+        puts: audit::nothing_put(),
+    };
     let mut done: u64 = 0;
-    let mut turns = u64::MAX;
-    while 0 < turns {
-        turns -= 1;
+    for _ in 0..u64::MAX {
         let got = io::read_full(STDIN_FILENO, &mut chunk);
-        let m = followed.month;
-        let a = followed.accounts;
-        let l = followed.ledger;
-        let p = followed.puts;
-        followed = audit::follow(m, a, &mut levels, l, p, &chunk[..got], done);
-        done = more(done, got as u64 / 24);
-        if got < 65520 {
+        audit::follow(&mut followed, &mut levels, &chunk[..got], done);
+        done = done.saturating_add(got as u64 / 24);
+        if got < CHUNK {
             break;
         }
     }
-    show_all(followed);
+    show_all(&followed);
 }

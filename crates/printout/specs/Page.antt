@@ -1,16 +1,23 @@
 -- The page: the lines that gather in a buffer on their way to standard output. A line for which too little room is left starts the page anew, once what
 -- was gathered is written. Assumes nothing.
-use Rattle.std.specs.Prelude.{cond, List, [], ◌∷◌, ◌≡◌, ℕ, zero, suc, ◌+◌, min, eqb, length, get_or}
+use Rattle.std.specs.Prelude.{cond, List, [], ◌∷◌, ℕ, zero, suc, ◌+◌, take, length, get_or, Result, Ok, Err}
+use Rattle.reasons.specs.declared.Reason.{Reason}
+use Rattle.reasons.specs.Numbers.{reason_number}
 use Rattle.ledger.specs.Running.{reason_in, number_in}
 use Rattle.settlement.specs.declared.figures.Figures.{Figures}
-use Rattle.settlement.specs.declared.listing.Settlement.{Settlement}
+use Rattle.settlement.specs.declared.listing.Listing.{Listing}
 use Rattle.settlement.specs.Figures.{no_figures}
+use Rattle.printout.specs.declared.page.Page.{Page}
 use Rattle.text.specs.Lines.{answer_line, figures_line, refusal_line, placed, roomy}
 
 -- the buffer, and how much of it is filled
 pub record Gathered : Type 0 where
   pub bytes : List ℕ
   pub used : ℕ
+
+-- the lines of a page
+abbrev pub gathered : Page → Gathered
+gathered p = record { bytes = p.bytes; used = p.used }
 
 -- where a line starts that is at most so long
 unfoldable pub start_of : ℕ → Gathered → ℕ
@@ -37,11 +44,7 @@ unfoldable pub with_figures : List Figures → ℕ → Gathered → Gathered
 with_figures figures zero g = g
 with_figures figures (suc n) g = with_line 256 (figures_line (get_or figures n no_figures).participant (numbers_of (get_or figures n no_figures))) (with_figures figures n g)
 
--- the lines of settlement, or that of its refusal
-unfoldable pub with_settlement : Settlement → Gathered → Gathered
-with_settlement s g = cond (eqb s.reason 0) (with_figures s.figures (min s.count 32) g) (with_line 32 (refusal_line s.reason) g)
-
--- a buffer, filled so far, is that page
-pub record Holds (g : Gathered) (bytes : List ℕ) (used : ℕ) : Type 0 where
-  pub bytes_are : bytes ≡ g.bytes
-  pub used_is : used ≡ g.used
+-- the lines of settlement, one for each participant that is listed, or that of its refusal
+unfoldable pub with_settlement : Result Listing Reason → Gathered → Gathered
+with_settlement (Ok l) g = with_figures (take l.count l.figures) (length (take l.count l.figures)) g
+with_settlement (Err r) g = with_line 32 (refusal_line (reason_number r)) g

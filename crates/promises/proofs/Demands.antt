@@ -7,11 +7,10 @@ use Prim.Native.Nat.{ℕ}
 use native.Mathlib.Omega.{arith}
 use lib.Dec.{eqb}
 use borrow.Author.Tests.{eqb-true}
+use Rattle.std.specs.Prelude.{Option, Some, None}
 use Rattle.units.specs.declared.Minutes.{Minutes}
 use Rattle.record.specs.declared.Step.{Step}
 use Rattle.record.specs.declared.Step.TheVariants.{OperatorAmends}
-use Rattle.record.specs.declared.Decoded.{Decoded}
-use Rattle.record.specs.declared.Decoded.TheVariants as D
 use Rattle.record.specs.Record.{decode_of}
 use Rattle.book.specs.Book.{Book}
 use Rattle.book.specs.Reasons.{reason_of}
@@ -46,34 +45,34 @@ unfolding answer_of reason_of
 step_reason b s = said (reason_of b s) (number_given b s)
 
 module _ (b : Book) (bytes : List ℕ) where
-  decoded_reason : usable b ≡ true → (d : Decoded) → decode_of bytes ≡ d → (record_answer b bytes).reason ≡ (decoded_answer b d).reason
+  decoded_reason : usable b ≡ true → (d : Option Step) → decode_of bytes ≡ d → (record_answer b bytes).reason ≡ (decoded_answer b d).reason
   decoded_reason u d e = ap (λ a. a.reason) (answered b bytes u ∙ ap (decoded_answer b) e)
 
-  is_lowest : (s : Step) → usable b ≡ true → decode_of bytes ≡ D.Step s → Lowest 2 (tests b s) (record_answer b bytes).reason
+  is_lowest : (s : Step) → usable b ≡ true → decode_of bytes ≡ Some s → Lowest 2 (tests b s) (record_answer b bytes).reason
   unfolding decoded_answer
-  is_lowest s u e = subst (Lowest 2 (tests b s)) (sym (decoded_reason u (D.Step s) e ∙ step_reason b s)) (lowest 2 (omega arith) (tests b s))
+  is_lowest s u e = subst (Lowest 2 (tests b s)) (sym (decoded_reason u (Some s) e ∙ step_reason b s)) (lowest 2 (omega arith) (tests b s))
 
   -- no step of a sound book is answered 1
-  is_first : ((record_answer b bytes).reason ≡ 1) ↔ ((usable b ≡ false) ⊎ (decode_of bytes ≡ D.Refused))
+  is_first : ((record_answer b bytes).reason ≡ 1) ↔ ((usable b ≡ false) ⊎ (decode_of bytes ≡ None))
   unfolding decoded_answer record_answer
   is_first = (λ one. by_book one (usable b) refl, back)
     where
-      not_one : (s : Step) → usable b ≡ true → decode_of bytes ≡ D.Step s → (record_answer b bytes).reason ≢ 1
+      not_one : (s : Step) → usable b ≡ true → decode_of bytes ≡ Some s → (record_answer b bytes).reason ≢ 1
       not_one s u e one = let l = is_lowest s u e in omega (arith, one, l.numbered (λ z. omega (arith, z, one)))
 
-      by_record : (record_answer b bytes).reason ≡ 1 → usable b ≡ true → (d : Decoded) → decode_of bytes ≡ d → (usable b ≡ false) ⊎ (decode_of bytes ≡ D.Refused)
-      by_record one u (D.Step s) e = absurd (not_one s u e one)
-      by_record one u D.Refused e = inr e
+      by_record : (record_answer b bytes).reason ≡ 1 → usable b ≡ true → (d : Option Step) → decode_of bytes ≡ d → (usable b ≡ false) ⊎ (decode_of bytes ≡ None)
+      by_record one u (Some s) e = absurd (not_one s u e one)
+      by_record one u None e = inr e
 
-      by_book : (record_answer b bytes).reason ≡ 1 → (t : Bool) → usable b ≡ t → (usable b ≡ false) ⊎ (decode_of bytes ≡ D.Refused)
+      by_book : (record_answer b bytes).reason ≡ 1 → (t : Bool) → usable b ≡ t → (usable b ≡ false) ⊎ (decode_of bytes ≡ None)
       by_book one true u = by_record one u (decode_of bytes) refl
       by_book one false u = inl u
 
-      refused : (t : Bool) → usable b ≡ t → decode_of bytes ≡ D.Refused → (record_answer b bytes).reason ≡ 1
-      refused true u e = decoded_reason u D.Refused e
+      refused : (t : Bool) → usable b ≡ t → decode_of bytes ≡ None → (record_answer b bytes).reason ≡ 1
+      refused true u e = decoded_reason u None e
       refused false u e = rw u
 
-      back : (usable b ≡ false) ⊎ (decode_of bytes ≡ D.Refused) → (record_answer b bytes).reason ≡ 1
+      back : (usable b ≡ false) ⊎ (decode_of bytes ≡ None) → (record_answer b bytes).reason ≡ 1
       back (inl u) = rw u
       back (inr e) = refused (usable b) refl e
 

@@ -1,12 +1,11 @@
 -- The three demands, and the settlement desk's first question, as statements about document 01's rules and about the public functions. Each is a
 -- record whose fields are what is asked; `proofs/Demands` proves each field by citing the crate that has it. Assumes nothing.
-use Rattle.std.specs.Prelude.{◌≡◌, ◌⊎◌, ◌≢◌, ◌↔◌, Bool, true, false, List, map, ℕ, suc, ◌+◌, ◌-◌, ◌^◌, ◌≤◌, ◌<◌, get_or, replicate}
+use Rattle.std.specs.Prelude.{◌≡◌, ◌⊎◌, ◌≢◌, ◌↔◌, Bool, true, false, List, map, ℕ, suc, ◌+◌, ◌-◌, ◌^◌, ◌≤◌, ◌<◌, get_or, replicate, Some, None}
 use Rattle.units.specs.declared.Minutes.{Minutes}
 use Rattle.share.specs.Totals.{at}
 use Rattle.share.specs.Nearness.{Nearest}
 use Rattle.record.specs.declared.Step.{Step}
 use Rattle.record.specs.declared.Step.TheVariants.{OperatorAmends}
-use Rattle.record.specs.declared.Decoded.TheVariants as D
 use Rattle.record.specs.Bytes.{AreBytes}
 use Rattle.record.specs.Record.{decode_of, bytes_of}
 use Rattle.book.specs.Book.{Book, fresh, is_open}
@@ -26,7 +25,7 @@ use Rattle.record.proofs.decode.Statement as decode
 use Rattle.record.proofs.encode.Statement as encode
 use Rattle.ledger.specs.Running.{records_in}
 use Rattle.audit.specs.declared.origin.Followed.{Followed}
-use Rattle.audit.specs.Following.{no_put, Follows}
+use Rattle.audit.specs.Following.{Follows}
 use Rattle.audit.proofs.Following.{Answered}
 use Rattle.audit.proofs.follow.Statement as follow
 
@@ -47,9 +46,9 @@ pub record Demand1 : Type 2 where
   -- any bytes on any book: a done step, or refused with a reason, number 0, and the book as it was
   pub answered : (b : Book) (bytes : List ℕ) → Done b bytes ⊎ Refused b (record_book b bytes) (record_answer b bytes)
   -- the reason is 1 exactly where the book cannot be used or the bytes say no step
-  pub first : (b : Book) (bytes : List ℕ) → ((record_answer b bytes).reason ≡ 1) ↔ ((usable b ≡ false) ⊎ (decode_of bytes ≡ D.Refused))
+  pub first : (b : Book) (bytes : List ℕ) → ((record_answer b bytes).reason ≡ 1) ↔ ((usable b ≡ false) ⊎ (decode_of bytes ≡ None))
   -- any other is the lowest of the table that applies
-  pub lowest : (b : Book) (bytes : List ℕ) (s : Step) → usable b ≡ true → decode_of bytes ≡ D.Step s → Lowest 2 (tests b s) (record_answer b bytes).reason
+  pub lowest : (b : Book) (bytes : List ℕ) (s : Step) → usable b ≡ true → decode_of bytes ≡ Some s → Lowest 2 (tests b s) (record_answer b bytes).reason
   -- `ledger::step` answers and leaves just that, whatever it is lent and given (its contract, `Answers`, for all inputs)
   pub step_does : {M : Type 1} → step.statement M
 
@@ -64,7 +63,7 @@ pub record Demand2 : Type 2 where
   -- settlement's totals are those of the ledger, and all tradeable credits are all received and all left
   pub closes : (b : Book) → usable b ≡ true → is_open b ≡ true → reason16 b ≡ false → Closed b
   -- well-formed bytes read and written again
-  pub again : (bytes : List ℕ) (s : Step) → AreBytes bytes → decode_of bytes ≡ D.Step s → bytes_of s ≡ bytes
+  pub again : (bytes : List ℕ) (s : Step) → AreBytes bytes → decode_of bytes ≡ Some s → bytes_of s ≡ bytes
   -- `ledger::run` gives these answers and this book for a whole history, on any lent book (its contract, `Runs`)
   pub run_does : {M : Type 1} → run.statement M
   -- `settlement::settle` gives document 01's figures, or writes nothing (`Settles`)
@@ -95,5 +94,5 @@ pub record Question1 : Type 2 where
   pub no_other : (b : Book) (records : ℕ → List ℕ) (n i : ℕ) → 1 ≤ n → puts_at b records n i ≡ false → quantity_after b records n (suc i) ≡ quantity_after b records n i
   -- `audit::follow` works the origin out (its contract, `Follows`), and what it says of a history from a fresh book is that origin
   pub follow_does : {M : Type 1} → follow.statement M
-  pub followed : (history : List ℕ) (r : Followed) (lv : List ℕ) → Follows fresh history 0 (replicate 256 no_put) r lv → records_in history < 2 ^ 64
-      → (i : ℕ) → i < r.month.given → i < 256 → Answered (records_of history) (suc i) (records_in history) (get_or r.puts i no_put)
+  pub followed : (history : List ℕ) (r : Followed) (lv : List ℕ) → Follows fresh history 0 (replicate 256 None) r lv → records_in history < 2 ^ 64
+      → (i : ℕ) → i < r.book.month.given → i < 256 → Answered (records_of history) (suc i) (records_in history) (get_or r.puts i None)

@@ -1,60 +1,46 @@
-// Small tests on the parts of a book, and how they make a reason: the lowest number that applies, or 0.
+// Small tests on the parts of a book, the reasons by name, and how a test refuses for one.
 #![tactic(auto)]
 
-ghost use Rattle.std.specs.Prelude.{◌≡◌, not, ◌&&◌, ◌||◌, ◌<◌};
+ghost use Rattle.std.specs.Prelude.{◌≡◌, cond, ◌||◌, ◌<◌};
 ghost use Rattle.book.specs.Book.{status_number, participants};
-ghost use Rattle.reasons.specs.Chain.{when, first};
+ghost use Rattle.reasons.specs.Numbers.{reason_number};
 ghost use Rattle.reasons.specs.Parts.{generates, consumes, roles_of, slot, pends, counts};
 
 use book::{Account, Allocation, Status};
 
-// The reasons, by name: 1 is for records, tables and books that say nothing, and 16 for settlement.
-pub const UNUSABLE: u8 = 1;
+// The reasons of document 01's table, in its order, each with its number: Unusable is for records,
+// tables and books that say nothing, and Excess for settlement.
+#[derive(Clone, Copy, PartialEq, Eq, PartialOrd, Ord)]
+pub enum Reason {
+    Unusable = 1,
+    NoMonth,
+    Already,
+    BeforeLast,
+    Unknown,
+    WrongParty,
+    Outside,
+    Closed,
+    WrongStatus,
+    WasWithdrawn,
+    AllGiven,
+    NotCovered,
+    MarginFails,
+    LevelPassed,
+    NoExcess,
+    Excess,
+}
 
-pub const NO_MONTH: u8 = 2;
+// The number of a reason.
+impl From<Reason> for u8 {
+    ghost from_gives = { λ r n. n ≡ reason_number r };
 
-pub const ALREADY: u8 = 3;
+    fn from(reason: Reason) -> u8 {
+        reason as u8
+    }
+}
 
-pub const BEFORE_LAST: u8 = 4;
-
-pub const UNKNOWN: u8 = 5;
-
-pub const WRONG_PARTY: u8 = 6;
-
-pub const OUTSIDE: u8 = 7;
-
-pub const CLOSED: u8 = 8;
-
-pub const WRONG_STATUS: u8 = 9;
-
-pub const WAS_WITHDRAWN: u8 = 10;
-
-pub const ALL_GIVEN: u8 = 11;
-
-pub const NOT_COVERED: u8 = 12;
-
-pub const MARGIN_FAILS: u8 = 13;
-
-pub const LEVEL_PASSED: u8 = 14;
-
-pub const NO_EXCESS: u8 = 15;
-
-pub const EXCESS: u8 = 16;
-
-// The statuses, by number.
-pub const EMPTY: u8 = 0;
-
-pub const SUBMITTED: u8 = 1;
-
-pub const WITHDRAWN: u8 = 2;
-
-pub const ACCEPTED: u8 = 3;
-
-pub const REVERSAL_ASKED: u8 = 4;
-
-pub const REVERSED: u8 = 5;
-
-// The roles, by number; 0 is not registered.
+// The roles, by number; 0 is not registered. Numbers and no enum: a lent account may hold any, and
+// the functions here answer for each.
 pub const GENERATOR: u8 = 1;
 
 pub const CUSTOMER: u8 = 2;
@@ -65,6 +51,11 @@ pub const PARTICIPANTS: u8 = 32;
 
 // The most numbers that can be given.
 pub const MOST_GIVEN: u16 = 256;
+
+// The days of a month.
+pub const FEWEST_DAYS: u8 = 28;
+
+pub const MOST_DAYS: u8 = 31;
 
 // The most that a level can be.
 pub const MOST_LEVEL: u32 = 10_000_000;
@@ -77,58 +68,30 @@ pub const LEAST_FIGURE: i64 = -100_000_000_000;
 
 pub const MOST_FIGURE: i64 = 100_000_000_000;
 
-// The reason, if the test holds.
-#[tactic(auto, unfolding(crate::specs::Chain::when))]
-pub fn refused_if(test: bool, reason: u8) -> u8
-    ensures { result ≡ when test reason }
+// Refused for the reason, if the test holds.
+pub fn refused_if<R: Drop>(test: bool, reason: R) -> Result<(), R>
+    ensures { result ≡ cond test (Err reason) (Ok tt) }
 {
-    if test { reason } else { 0 }
+    if test { Err(reason) } else { Ok(()) }
 }
 
-// The reason, unless the test holds.
-#[tactic(auto, unfolding(crate::specs::Chain::when))]
-pub fn refused_unless(test: bool, reason: u8) -> u8
-    ensures { result ≡ when (not test) reason }
+// Refused for the reason, unless the test holds.
+pub fn refused_unless<R: Drop>(test: bool, reason: R) -> Result<(), R>
+    ensures { result ≡ cond test (Ok tt) (Err reason) }
 {
-    if test { 0 } else { reason }
-}
-
-// The first reason, unless it is none.
-#[tactic(auto, unfolding(crate::specs::Chain::first))]
-pub fn first_of(x: u8, y: u8) -> u8
-    ensures { result ≡ first x y }
-{
-    if x == 0 { y } else { x }
-}
-
-pub fn both(x: bool, y: bool) -> bool
-    ensures { result ≡ (x && y) }
-{
-    if x { y } else { false }
-}
-
-pub fn either(x: bool, y: bool) -> bool
-    ensures { result ≡ (x || y) }
-{
-    if x { true } else { y }
-}
-
-pub fn negated(x: bool) -> bool
-    ensures { result ≡ not x }
-{
-    if x { false } else { true }
+    if test { Ok(()) } else { Err(reason) }
 }
 
 pub fn is_generator(roles: u8) -> bool
     ensures { result ≡ generates roles }
 {
-    either(roles == GENERATOR, roles == BOTH)
+    roles == GENERATOR || roles == BOTH
 }
 
 pub fn is_customer(roles: u8) -> bool
     ensures { result ≡ consumes roles }
 {
-    either(roles == CUSTOMER, roles == BOTH)
+    roles == CUSTOMER || roles == BOTH
 }
 
 // The place of a participant's account; of one past the last, the first place.
@@ -153,17 +116,18 @@ pub fn roles_of(participant: u8, a: Account) -> u8
     }
 }
 
-// The number of a status.
+// The number of a status. By a match, since one status carries its minute; and by a function, since
+// `From` is for the crate of the type, which is book.
 pub fn number_of(status: Status) -> u8
     ensures { result ≡ status_number status }
 {
     match status {
-        Status::Empty => EMPTY,
-        Status::Submitted => SUBMITTED,
-        Status::Withdrawn => WITHDRAWN,
-        Status::Accepted => ACCEPTED,
-        Status::ReversalAsked(_) => REVERSAL_ASKED,
-        Status::Reversed => REVERSED,
+        Status::Empty => 0,
+        Status::Submitted => 1,
+        Status::Withdrawn => 2,
+        Status::Accepted => 3,
+        Status::ReversalAsked(_) => 4,
+        Status::Reversed => 5,
     }
 }
 
@@ -171,14 +135,9 @@ pub fn number_of(status: Status) -> u8
 pub fn pending_in(l: Allocation) -> u32
     ensures { result ≡ pends l }
 {
-    let s = l.status;
-    match s {
-        Status::Empty => 0,
+    match l.status {
         Status::Submitted => l.quantity.0,
-        Status::Withdrawn => 0,
-        Status::Accepted => 0,
-        Status::ReversalAsked(_) => 0,
-        Status::Reversed => 0,
+        _ => 0,
     }
 }
 
@@ -186,13 +145,8 @@ pub fn pending_in(l: Allocation) -> u32
 pub fn accepted_in(l: Allocation) -> u32
     ensures { result ≡ counts l }
 {
-    let s = l.status;
-    match s {
-        Status::Empty => 0,
-        Status::Submitted => 0,
-        Status::Withdrawn => 0,
-        Status::Accepted => l.quantity.0,
-        Status::ReversalAsked(_) => l.quantity.0,
-        Status::Reversed => 0,
+    match l.status {
+        Status::Accepted | Status::ReversalAsked(_) => l.quantity.0,
+        _ => 0,
     }
 }

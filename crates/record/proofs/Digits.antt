@@ -1,14 +1,14 @@
 -- Numbers and their bytes go into each other: what is written in n bytes reads the same, and what is read of n bytes writes them again.
 -- Both by taking the highest byte off, over the count of bytes. Assumes nothing.
 use mathlib.Core.Path.{◌≡◌, refl, sym, ap, ◌∙◌}
-use mathlib.Core.List.{List, [], ◌∷◌}
+use mathlib.Core.List.{List, ◌∷◌}
 use Prim.Native.Nat.{ℕ, zero, suc, ◌+◌, ◌*◌, ◌/◌, ◌%◌, ◌^◌, ◌<◌}
 use native.Mathlib.Nat.{div-add-mod', mul-add-div_right, mul-add-mod_self_right, div-eq_of_lt, mod-eq_of_lt, pow-suc, one-le-pow, add-zero, mul-le-mul_right}
 use native.Mathlib.Numerals.{add-one}
 use native.Mathlib.Omega.{arith}
 use lib.Dec.{lit<}
-use lib.ListN.{length, get_or, take, drop}
-use lib.Seq.{drop-cons, drop-length, get_or-drop}
+use lib.ListN.{length, get_or, drop}
+use lib.Seq.{drop-cons, drop-length}
 use Rattle.record.specs.Bytes.{part, number_of, bytes, AreBytes}
 
 -- a number in n bytes has n of them
@@ -63,13 +63,3 @@ last_part s at (suc n) e =
 
 pub whole : (s : List ℕ) (n : ℕ) → length s ≡ n → part s 0 n ≡ s
 whole s n e = last_part s 0 n (omega arith)
-
--- a part of a file of bytes is one
-take_bytes : (n : ℕ) (s : List ℕ) → AreBytes s → AreBytes (take n s)
-take_bytes zero s b i = lit< tt
-take_bytes (suc n) [] b i = lit< tt
-take_bytes (suc n) (x ∷ xs) b zero = b 0
-take_bytes (suc n) (x ∷ xs) b (suc i) = take_bytes n xs (λ j. b (suc j)) i
-
-pub part_bytes : (s : List ℕ) (at n : ℕ) → AreBytes s → AreBytes (take n (drop at s))
-part_bytes s at n b = take_bytes n (drop at s) (λ i. rw get_or-drop (b (at + i)))

@@ -1,36 +1,40 @@
 -- The fourteen kinds of step and the fields that each uses (01 "The step record", the table's first two columns): "Every kind uses the
 -- minute; other fields a kind does not use are zero". Assumes nothing.
-use Rattle.std.specs.Prelude.{Bool, true, false, ◌&&◌, ◌||◌, List, [], ◌∷◌, ℕ, zero, suc, eqb}
+use Rattle.std.specs.Prelude.{Bool, ◌||◌, List, [], ◌∷◌, ℕ, zero, suc, eqb, Option, None, slice_get}
+use Rattle.std.specs.List.{list_all, list_any}
 use Rattle.std.specs.Int.{w64}
 use Rattle.std.proofs.Common.{of_z}
+use Rattle.record.specs.declared.kind.Kind.{Kind}
+use Rattle.record.specs.declared.kind.Kind.TheVariants.{Open, Window, Register, Requirement, Margin, Create, Terminate, Submit, Withdraw, Accept, AskReversal, AgreeReversal, GeneratorAmends, OperatorAmends}
 use Rattle.record.specs.declared.form.Fields.{Fields}
 
--- the table's rows
-pub data Kind : Type 0 where
-  OPEN WINDOW REGISTER REQUIREMENT MARGIN CREATE TERMINATE : Kind
-  SUBMIT WITHDRAW ACCEPT ASK_REVERSAL AGREE_REVERSAL GENERATOR_AMENDS OPERATOR_AMENDS : Kind
-
--- what the number in byte 0 stands for
-pub data Known : Type 0 where
-  known : Kind → Known
-  unknown : Known
-
--- kinds 1 to 14, in order
+-- the table's rows: kinds 1 to 14, in order
 abbrev pub kinds : List Kind
 kinds =
-    OPEN ∷ WINDOW ∷ REGISTER ∷ REQUIREMENT ∷ MARGIN ∷ CREATE ∷ TERMINATE
-    ∷ SUBMIT ∷ WITHDRAW ∷ ACCEPT ∷ ASK_REVERSAL ∷ AGREE_REVERSAL ∷ GENERATOR_AMENDS ∷ OPERATOR_AMENDS ∷ []
+    Open ∷ Window ∷ Register ∷ Requirement ∷ Margin ∷ Create ∷ Terminate
+    ∷ Submit ∷ Withdraw ∷ Accept ∷ AskReversal ∷ AgreeReversal ∷ GeneratorAmends ∷ OperatorAmends ∷ []
 
--- entry n of a list of kinds, counted from 0
-abbrev pub entry : List Kind → ℕ → Known
-entry [] n = unknown
-entry (k ∷ ks) zero = known k
-entry (k ∷ ks) (suc n) = entry ks n
+-- the kind that the number in byte 0 stands for, counted from 1
+abbrev pub kind_of : ℕ → Option Kind
+kind_of zero = None
+kind_of (suc n) = slice_get kinds n
 
--- the kind of a number, counted from 1
-abbrev pub kind_of : ℕ → Known
-kind_of zero = unknown
-kind_of (suc n) = entry kinds n
+-- the number of a kind, in byte 0
+abbrev pub kind_number : Kind → ℕ
+kind_number Open = 1
+kind_number Window = 2
+kind_number Register = 3
+kind_number Requirement = 4
+kind_number Margin = 5
+kind_number Create = 6
+kind_number Terminate = 7
+kind_number Submit = 8
+kind_number Withdraw = 9
+kind_number Accept = 10
+kind_number AskReversal = 11
+kind_number AgreeReversal = 12
+kind_number GeneratorAmends = 13
+kind_number OperatorAmends = 14
 
 -- the fields that a kind may leave unused. Byte 11 is one that every kind leaves unused
 pub data Field : Type 0 where
@@ -41,20 +45,20 @@ fields = A ∷ B ∷ selector ∷ number ∷ day ∷ eleven ∷ quantity ∷ amo
 
 -- the table's column "Uses"; `number` is the allocation number
 abbrev pub uses : Kind → List Field
-uses OPEN = day ∷ amount ∷ []
-uses WINDOW = selector ∷ amount ∷ []
-uses REGISTER = A ∷ selector ∷ []
-uses REQUIREMENT = A ∷ quantity ∷ []
-uses MARGIN = A ∷ amount ∷ []
-uses CREATE = A ∷ selector ∷ day ∷ quantity ∷ []
-uses TERMINATE = A ∷ selector ∷ day ∷ quantity ∷ []
-uses SUBMIT = A ∷ B ∷ quantity ∷ []
-uses WITHDRAW = A ∷ number ∷ []
-uses ACCEPT = A ∷ number ∷ []
-uses ASK_REVERSAL = A ∷ number ∷ []
-uses AGREE_REVERSAL = A ∷ number ∷ []
-uses GENERATOR_AMENDS = A ∷ number ∷ quantity ∷ []
-uses OPERATOR_AMENDS = A ∷ []
+uses Open = day ∷ amount ∷ []
+uses Window = selector ∷ amount ∷ []
+uses Register = A ∷ selector ∷ []
+uses Requirement = A ∷ quantity ∷ []
+uses Margin = A ∷ amount ∷ []
+uses Create = A ∷ selector ∷ day ∷ quantity ∷ []
+uses Terminate = A ∷ selector ∷ day ∷ quantity ∷ []
+uses Submit = A ∷ B ∷ quantity ∷ []
+uses Withdraw = A ∷ number ∷ []
+uses Accept = A ∷ number ∷ []
+uses AskReversal = A ∷ number ∷ []
+uses AgreeReversal = A ∷ number ∷ []
+uses GeneratorAmends = A ∷ number ∷ quantity ∷ []
+uses OperatorAmends = A ∷ []
 
 -- the byte where a field begins, which tells the fields apart
 abbrev pub begins : Field → ℕ
@@ -69,8 +73,7 @@ begins amount = 16
 
 -- whether a field is one of these
 abbrev pub member : Field → List Field → Bool
-member x [] = false
-member x (y ∷ ys) = eqb (begins x) (begins y) || member x ys
+member x ys = list_any (λ y. eqb (begins x) (begins y)) ys
 
 -- the number in a field's bytes
 abbrev pub value_of : Fields → Field → ℕ
@@ -83,15 +86,10 @@ value_of f eleven = f.eleven
 value_of f quantity = f.quantity.0
 value_of f amount = of_z w64 f.amount.0
 
--- a test that holds of each of these fields
-abbrev pub all : (Field → Bool) → List Field → Bool
-all p [] = true
-all p (x ∷ xs) = p x && all p xs
-
 -- a field that the kind uses, or that is zero
 abbrev pub used_or_zero : Kind → Fields → Field → Bool
 used_or_zero k f x = member x (uses k) || eqb (value_of f x) 0
 
 -- every field that the kind does not use is zero
 abbrev pub unused_zero : Kind → Fields → Bool
-unused_zero k f = all (used_or_zero k f) fields
+unused_zero k f = list_all (used_or_zero k f) fields

@@ -1,9 +1,8 @@
 -- The step record of document 01, in its order: the bytes, the fields, the kinds, what a record says, what a step must fit, and what is
--- refused. `Tested` is for the code's own contracts.
+-- refused.
 pub mod Bytes
 pub mod Form
 pub mod Kinds
 pub mod Record
 pub mod Ranged
 pub mod WellFormed
-pub mod Tested

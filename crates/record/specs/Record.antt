@@ -1,53 +1,53 @@
 -- What a record says, and the record of a step (01 "The step record", the table; "Reasons for refusal", reason 1). A list of bytes says
 -- a step where it has 24 bytes, a known kind and zero in every field that the kind does not use. Anything else is refused.
 -- Assumes nothing.
-use Rattle.std.specs.Prelude.{Bool, true, false, List, ℕ, eqb, ℤ, pos, length}
+use Rattle.std.specs.Prelude.{Bool, true, false, List, ℕ, eqb, ℤ, pos, length, Option, Some, None}
 use Rattle.record.specs.Form.{fields_of, layout}
-use Rattle.record.specs.Kinds.{Kind, OPEN, WINDOW, REGISTER, REQUIREMENT, MARGIN, CREATE, TERMINATE, SUBMIT, WITHDRAW, ACCEPT, ASK_REVERSAL, AGREE_REVERSAL, GENERATOR_AMENDS, OPERATOR_AMENDS, Known, known, unknown, kind_of, unused_zero}
+use Rattle.record.specs.Kinds.{kind_of, unused_zero}
+use Rattle.record.specs.declared.kind.Kind.{Kind}
+use Rattle.record.specs.declared.kind.Kind.TheVariants.{Open, Window, Register, Requirement, Margin, Create, Terminate, Submit, Withdraw, Accept, AskReversal, AgreeReversal, GeneratorAmends, OperatorAmends}
 use Rattle.units.specs.declared.Minutes.{Minutes}
 use Rattle.record.specs.declared.form.Fields.{Fields}
 use Rattle.record.specs.declared.Step.{Step}
 use Rattle.record.specs.declared.Step.TheVariants as S
-use Rattle.record.specs.declared.Decoded.{Decoded}
-use Rattle.record.specs.declared.Decoded.TheVariants as D
 
 -- the step of each kind, from the fields that the kind uses and the minute
 abbrev pub made : Kind → Fields → Step
-made OPEN f = S.Open f.day (record { 0 = f.amount.0 }) f.minute
-made WINDOW f = S.Window f.selector (record { 0 = f.amount.0 }) f.minute
-made REGISTER f = S.Register f.a f.selector f.minute
-made REQUIREMENT f = S.Requirement f.a f.quantity f.minute
-made MARGIN f = S.Margin f.a (record { 0 = f.amount.0 }) f.minute
-made CREATE f = S.Create f.a f.selector f.day f.quantity f.minute
-made TERMINATE f = S.Terminate f.a f.selector f.day f.quantity f.minute
-made SUBMIT f = S.Submit f.a f.b f.quantity f.minute
-made WITHDRAW f = S.Withdraw f.a f.number f.minute
-made ACCEPT f = S.Accept f.a f.number f.minute
-made ASK_REVERSAL f = S.AskReversal f.a f.number f.minute
-made AGREE_REVERSAL f = S.AgreeReversal f.a f.number f.minute
-made GENERATOR_AMENDS f = S.GeneratorAmends f.a f.number f.quantity f.minute
-made OPERATOR_AMENDS f = S.OperatorAmends f.a f.minute
+made Open f = S.Open f.day (record { 0 = f.amount.0 }) f.minute
+made Window f = S.Window f.selector (record { 0 = f.amount.0 }) f.minute
+made Register f = S.Register f.a f.selector f.minute
+made Requirement f = S.Requirement f.a f.quantity f.minute
+made Margin f = S.Margin f.a (record { 0 = f.amount.0 }) f.minute
+made Create f = S.Create f.a f.selector f.day f.quantity f.minute
+made Terminate f = S.Terminate f.a f.selector f.day f.quantity f.minute
+made Submit f = S.Submit f.a f.b f.quantity f.minute
+made Withdraw f = S.Withdraw f.a f.number f.minute
+made Accept f = S.Accept f.a f.number f.minute
+made AskReversal f = S.AskReversal f.a f.number f.minute
+made AgreeReversal f = S.AgreeReversal f.a f.number f.minute
+made GeneratorAmends f = S.GeneratorAmends f.a f.number f.quantity f.minute
+made OperatorAmends f = S.OperatorAmends f.a f.minute
 
 -- what passed a test, and a refusal where it failed
-unfoldable pub or_refused : Bool → Decoded → Decoded
+unfoldable pub or_refused : Bool → Option Step → Option Step
 or_refused true d = d
-or_refused false d = D.Refused
+or_refused false d = None
 
 -- what the fields say as a step of one kind: the step, if every field that the kind does not use is zero
-abbrev pub said : Kind → Fields → Decoded
-said k f = or_refused (unused_zero k f) (D.Step (made k f))
+abbrev pub said : Kind → Fields → Option Step
+said k f = or_refused (unused_zero k f) (Some (made k f))
 
 -- what the fields say, by what their kind's number stands for
-unfoldable pub said_as : Known → Fields → Decoded
-said_as (known k) f = said k f
-said_as unknown f = D.Refused
+unfoldable pub said_as : Option Kind → Fields → Option Step
+said_as (Some k) f = said k f
+said_as None f = None
 
 -- what a list of bytes says
-unfoldable pub decode_of : List ℕ → Decoded
+unfoldable pub decode_of : List ℕ → Option Step
 decode_of s = or_refused (eqb (length s) 24) (said_as (kind_of (fields_of s).kind) (fields_of s))
 
 -- the fields of a step, by the columns below
-abbrev row : ℕ → ℕ → ℕ → ℕ → ℕ → ℕ → ℕ → ℤ → Minutes → Fields
+abbrev pub row : ℕ → ℕ → ℕ → ℕ → ℕ → ℕ → ℕ → ℤ → Minutes → Fields
 row kind' a' b' selector' number' day' quantity' amount' minute' = record {
   kind = kind';
   a = a';

@@ -1,47 +1,47 @@
 // The fields of a record, read from its bytes and written again.
-ghost use Rattle.std.specs.Prelude.{◌≡◌, length};
+ghost use Rattle.std.specs.Prelude.{◌≡◌};
 ghost use Rattle.record.specs.Form.{fields_of, layout};
-ghost use Rattle.record.specs.Tested.{Whether, Agree};
 
-use crate::numbers;
 use units::{Cents, LongMinutes, Minutes, Thousandths};
 
 // The eight bytes of an amount, before the step's kind says whether they are money or a time.
-#[derive(Clone, Copy)]
+#[derive(Clone, Copy, PartialEq, Eq)]
 pub struct Amount(pub i64);
 
-impl Amount {
-    // Money, as an amount.
-    pub fn of_cents(c: Cents) -> Amount
-        ensures { result ≡ record { 0 = c.0 } }
-    {
-        Amount(c.0)
-    }
+impl From<Cents> for Amount {
+    ghost from_gives = { λ money amount. amount ≡ record { 0 = money.0 } };
 
-    // A time, as an amount.
-    pub fn of_minutes(t: LongMinutes) -> Amount
-        ensures { result ≡ record { 0 = t.0 } }
-    {
-        Amount(t.0)
+    fn from(money: Cents) -> Amount {
+        Amount(money.0)
     }
+}
 
-    // The amount, as money.
-    pub fn cents(self) -> Cents
-        ensures { result ≡ record { 0 = self.0 } }
-    {
-        Cents(self.0)
+impl From<LongMinutes> for Amount {
+    ghost from_gives = { λ time amount. amount ≡ record { 0 = time.0 } };
+
+    fn from(time: LongMinutes) -> Amount {
+        Amount(time.0)
     }
+}
 
-    // The amount, as a time.
-    pub fn minutes(self) -> LongMinutes
-        ensures { result ≡ record { 0 = self.0 } }
-    {
-        LongMinutes(self.0)
+impl From<Amount> for Cents {
+    ghost from_gives = { λ amount money. money ≡ record { 0 = amount.0 } };
+
+    fn from(amount: Amount) -> Cents {
+        Cents(amount.0)
+    }
+}
+
+impl From<Amount> for LongMinutes {
+    ghost from_gives = { λ amount time. time ≡ record { 0 = amount.0 } };
+
+    fn from(amount: Amount) -> LongMinutes {
+        LongMinutes(amount.0)
     }
 }
 
 // The fields of a record, in the order of its bytes.
-#[derive(Clone, Copy)]
+#[derive(Clone, Copy, PartialEq, Eq)]
 pub struct Fields {
     pub kind: u8,
     pub a: u8,
@@ -56,73 +56,39 @@ pub struct Fields {
 }
 
 // The fields of 24 bytes.
-pub fn read(s: &[u8]) -> Fields
-    requires { length s.now ≡ 24 }
-    ensures { result ≡ fields_of s.now }
-{
-    let minute = numbers::minutes(numbers::number32_at(s, 4));
-    let number = numbers::number16_at(s, 8);
-    let quantity = Thousandths(numbers::number32_at(s, 12));
-    let high = numbers::number32_at(s, 16);
-    let low = numbers::number32_at(s, 20);
-    let amount = numbers::amount(numbers::number64(high, low));
-    Fields {
-        kind: s[0],
-        a: s[1],
-        b: s[2],
-        selector: s[3],
-        minute,
-        number,
-        day: s[10],
-        eleven: s[11],
-        quantity,
-        amount,
+impl From<&[u8; 24]> for Fields {
+    ghost from_gives = { λ s f. f ≡ fields_of s.now };
+
+    fn from(s: &[u8; 24]) -> Fields {
+        Fields {
+            kind: s[0],
+            a: s[1],
+            b: s[2],
+            selector: s[3],
+            minute: Minutes(i32::from_be_bytes([s[4], s[5], s[6], s[7]])),
+            number: u16::from_be_bytes([s[8], s[9]]),
+            day: s[10],
+            eleven: s[11],
+            quantity: Thousandths(u32::from_be_bytes([s[12], s[13], s[14], s[15]])),
+            amount: Amount(i64::from_be_bytes([
+                s[16], s[17], s[18], s[19], s[20], s[21], s[22], s[23],
+            ])),
+        }
     }
 }
 
 // The 24 bytes of the fields.
-pub fn write(f: Fields) -> [u8; 24]
-    ensures { result ≡ layout f }
-{
-    let minute = f.minute;
-    let amount = f.amount;
-    let m = numbers::four(numbers::minute_bits(minute));
-    let n = numbers::two(f.number);
-    let q = numbers::four(f.quantity.0);
-    let a = numbers::eight(numbers::amount_bits(amount));
-    [
-        f.kind, f.a, f.b, f.selector, m[0], m[1], m[2], m[3], n[0], n[1], f.day, f.eleven, q[0],
-        q[1], q[2], q[3], a[0], a[1], a[2], a[3], a[4], a[5], a[6], a[7],
-    ]
-}
+impl From<Fields> for [u8; 24] {
+    ghost from_gives = { λ f s. s ≡ layout f };
 
-// Whether two records agree in the fields that some kind leaves unused.
-pub fn agree(f: Fields, g: Fields) -> bool
-    ensures { Whether result (Agree f g) }
-{
-    if f.a != g.a {
-        return false;
+    fn from(f: Fields) -> [u8; 24] {
+        let [m0, m1, m2, m3] = f.minute.0.to_be_bytes();
+        let [n0, n1] = f.number.to_be_bytes();
+        let [q0, q1, q2, q3] = f.quantity.0.to_be_bytes();
+        let [a0, a1, a2, a3, a4, a5, a6, a7] = f.amount.0.to_be_bytes();
+        [
+            f.kind, f.a, f.b, f.selector, m0, m1, m2, m3, n0, n1, f.day, f.eleven, q0, q1, q2, q3,
+            a0, a1, a2, a3, a4, a5, a6, a7,
+        ]
     }
-    if f.b != g.b {
-        return false;
-    }
-    if f.selector != g.selector {
-        return false;
-    }
-    if f.number != g.number {
-        return false;
-    }
-    if f.day != g.day {
-        return false;
-    }
-    if f.eleven != g.eleven {
-        return false;
-    }
-    if f.quantity.0 != g.quantity.0 {
-        return false;
-    }
-    if f.amount.0 != g.amount.0 {
-        return false;
-    }
-    true
 }

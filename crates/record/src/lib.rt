@@ -1,14 +1,15 @@
 // The step record: what 24 bytes say, and the 24 bytes of a step. No function here has a `requires`: whatever the bytes, they are answered.
 #![tactic(auto)]
 
-ghost use Rattle.std.specs.Prelude.{◌≡◌, ◌*◌, take, drop};
+ghost use Rattle.std.specs.Prelude.{◌≡◌, ◌*◌, take, drop, Some};
 ghost use Rattle.record.specs.Record.{decode_of, bytes_of};
 ghost use Rattle.record.specs.Ranged.{Ranged};
 
+use form::Fields;
 use units::{Cents, LongMinutes, Minutes, Thousandths};
 
 mod form; // form.rt: the fields of a record
-mod numbers; // numbers.rt: numbers in bytes
+mod kind; // kind.rt: the kinds of step
 mod reading; // reading.rt: the step that fields say
 mod writing; // writing.rt: the fields of a step
 
@@ -92,43 +93,34 @@ pub enum Step {
     },
 }
 
-// What a record says: a step, or nothing that counts as one (document 01's reason 1).
-#[derive(Clone, Copy)]
-pub enum Decoded {
-    Step(Step),
-    Refused,
-}
-
 // The bytes of a record.
 const SIZE: usize = 24;
 
-// What a record of bytes says: every list of bytes, of any length, is answered.
-pub fn decode(record: &[u8]) -> Decoded
+// What a record of bytes says, a step or nothing that counts as one (document 01's reason 1): every list of bytes, of any length, is answered.
+#[tactic(auto, using(crate::proofs::Says::fields_say, crate::proofs::Refusal::long_refused))]
+pub fn decode(record: &[u8]) -> Option<Step>
     ensures { result ≡ decode_of «record».now }
 {
-    if record.len() != SIZE {
-        return Decoded::Refused;
-    }
-    reading::step_of(form::read(record))
+    let bytes = record.as_array::<SIZE>()?;
+    reading::step_of(Fields::from(bytes))
 }
 
 // The same for the record at a place (from 0) of a file of records, uncopied. Past the last whole record it is refused.
-pub fn decode_at(history: &[u8], place: usize) -> Decoded
+#[tactic(auto, using(crate::proofs::Pieces::piece, crate::proofs::Pieces::past_refused))]
+pub fn decode_at(history: &[u8], place: usize) -> Option<Step>
     ensures { result ≡ decode_of (take 24 (drop (place * 24) history.now)) }
 {
-    if history.len() / SIZE <= place {
-        return Decoded::Refused;
-    }
-    let start = place * SIZE;
-    let end = start + SIZE;
-    decode(&history[start..end])
+    let (records, _) = history.as_chunks::<SIZE>();
+    decode(records.get(place)?)
 }
 
 // The 24 bytes of a step, which fits its fields by its types.
+#[tactic(auto, unfolding(crate::specs::Record::bytes_of))]
 fn encoded(step: Step) -> [u8; 24]
-    ensures { (result ≡ bytes_of step) × Ranged step }
+    ensures bytes { result ≡ bytes_of step }
+    ensures fits { Ranged step }
 {
-    form::write(writing::fields_of(step))
+    Fields::from(step).into()
 }
 
 // The 24 bytes of a step.
@@ -139,8 +131,9 @@ pub fn encode(step: Step) -> [u8; 24]
 }
 
 // What the record of a step says: for every step, that step.
-pub fn read_back(step: Step) -> Decoded
-    ensures { result ≡ Decoded.Step step }
+#[tactic(auto, using(crate::proofs::RoundTrip::step_again))]
+pub fn read_back(step: Step) -> Option<Step>
+    ensures { result ≡ Some step }
 {
     decode(&encoded(step))
 }

@@ -1,4 +1,4 @@
--- The figures that a settlement gives close. A settlement with reason 0 is that of a usable book with a month open and no excess, whose list closes
+-- The figures that a settlement gives close. A settlement that is not refused is that of a usable book with a month open and no excess, whose list closes
 -- (`book`'s `closes`); its figures are that list in the units of the code, and places that are not used add nothing. Assumes nothing.
 use mathlib.Core.Path.{◌≡◌, refl, sym, ap, ◌∙◌}
 use mathlib.Core.Bool.{Bool, true, false, cond, not}
@@ -8,6 +8,7 @@ use native.Mathlib.Omega.{arith}
 use lib.Dec.{eqb}
 use lib.ListN.{length, take, drop, replicate, length-map}
 use lib.Seq.{take_at}
+use Rattle.std.specs.Prelude.{Ok}
 use Rattle.book.specs.Book.{Book, is_open, participants}
 use Rattle.book.specs.Run.{usable}
 use Rattle.book.specs.Words.{total, accepted, received}
@@ -17,11 +18,10 @@ use Rattle.book.proofs.Closing.{closes}
 use Rattle.book.proofs.Sums.{total-append, total_none}
 use Rattle.book.proofs.Tables.{blank}
 use Rattle.settlement.specs.declared.figures.Figures.{Figures}
-use Rattle.settlement.specs.declared.settling.Settled.{Settled}
+use Rattle.settlement.specs.declared.listing.Listing.{Listing}
 use Rattle.settlement.specs.Figures.{figures_in, no_figures}
 use Rattle.settlement.specs.Listing.{filled}
-use Rattle.settlement.specs.Settling.{settlement_of, reason_with, Settles}
-use Rattle.settlement.proofs.Reasons.{late}
+use Rattle.settlement.specs.Settling.{reason_with, SettlesWhole, Settles}
 
 -- ---- a participant's quantities are the ledger's
 pub made_is : (b : Book) (p : ℕ) → (figures_in (book.figures_of b p)).made.0 ≡ accepted b p
@@ -51,7 +51,7 @@ total_filled f none l =
     omega (arith, total-append f (map figures_in l) (replicate k no_figures), total_none f no_figures (replicate k no_figures) (λ i _. ap f (blank k i no_figures) ∙ none))
 
 -- ---- where the reason is 0
-passed : (usable opened excess : Bool) → ◌≡◌ {A = ℕ} (cond (not usable) 1 (late (not opened) excess)) 0 → (usable ≡ true) × ((opened ≡ true) × (excess ≡ false))
+passed : (usable opened excess : Bool) → ◌≡◌ {A = ℕ} (cond (not usable) 1 (cond (not opened) 2 (cond excess 16 0))) 0 → (usable ≡ true) × ((opened ≡ true) × (excess ≡ false))
 passed true true false h = (refl, (refl, refl))
 passed true true true h = absurd (omega arith)
 passed true false excess h = absurd (omega arith)
@@ -69,13 +69,12 @@ list_closes b h =
       received = total_in (λ f. f.received.0) l ∙ c.received;
     }
 
--- ---- the settlement of a book that is handed over: all its places
-pub whole_closes : (b : Book) → (settlement_of b).reason ≡ 0 → Closes b (settlement_of b).figures
-unfolding settlement_of
-whole_closes b h =
+-- ---- the settlement of a book that is held whole: all its places
+pub whole_closes : (b : Book) (s : Listing) → SettlesWhole b (Ok s) → Closes b s.figures
+whole_closes b s w =
     let l = book.settlement b in
-    let c = list_closes b h in
-    rw h (record {
+    let c = list_closes b (sym w.reason_is) in
+    rw (w.lists.figures_are) (record {
       credits = omega (arith, total_filled (λ f. f.tradeable.0) refl l, total_filled (λ f. f.received.0) refl l, total_filled (λ f. f.left.0) refl l, c.credits);
       made = total_filled (λ f. f.made.0) refl l ∙ c.made;
       received = total_filled (λ f. f.received.0) refl l ∙ c.received;
@@ -86,12 +85,12 @@ had_room : (t : Bool) (n : ℕ) → cond t n 1 ≡ 0 → n ≡ 0
 had_room true n h = h
 had_room false n h = absurd (omega arith)
 
-pub lent_closes : (b : Book) (room after : List Figures) (r : Settled) → Settles b room r after → r.reason ≡ 0 → Closes b (take r.count after)
+pub lent_closes : (b : Book) (room after : List Figures) (n : ℕ) → Settles b room (Ok n) after → Closes b (take n after)
 unfolding reason_with
-lent_closes b room after r s h =
+lent_closes b room after n s =
     let l = map figures_in (book.settlement b) in
     let rest = drop (length (book.settlement b)) room in
-    let none : reason_with b (length room) ≡ 0 = sym s.reason_is ∙ h in
-    let written : take r.count after ≡ l =
+    let none : reason_with b (length room) ≡ 0 = sym s.reason_is in
+    let written : take n after ≡ l =
     rw (s.count_is, s.figures_are, none) (take_at l rest (length (book.settlement b)) (length-map (book.settlement b) figures_in)) in
     rw written (list_closes b (had_room (eqb (length room) participants) (book.settlement_reason b) none))

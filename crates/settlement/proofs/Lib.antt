@@ -1,5 +1,4 @@
 pub mod Listed
-pub mod Reasons
 pub mod Books
 pub mod Written
 pub mod Closing

@@ -1,8 +1,8 @@
 -- The list of figures, a participant more at a time. One that is registered is put in the first place not used, which there is while fewer than 32 were
--- looked at; and a search for an excess looks at one generator more. Assumes nothing.
-use mathlib.Core.Path.{◌≡◌, refl, sym, ap, ◌∙◌}
-use mathlib.Core.Bool.{Bool, true, false, cond, ◌||◌}
-use mathlib.Core.List.{List, [], ◌∷◌, ◌++◌, map, map-append, append-nil}
+-- looked at. Assumes nothing.
+use mathlib.Core.Path.{◌≡◌, sym, ap, ◌∙◌}
+use mathlib.Core.Bool.{Bool, true, false, cond}
+use mathlib.Core.List.{List, [], ◌∷◌, ◌++◌, map, map-append}
 use Prim.Native.Nat.{ℕ, zero, suc, ◌+◌, ◌-◌, ◌≤◌, ◌<◌}
 use native.Mathlib.Numerals.{add-one}
 use native.Mathlib.Omega.{arith}
@@ -11,14 +11,18 @@ use lib.Seq.{set_at, append_snoc}
 use Rattle.book.specs.declared.Account.{Account}
 use Rattle.book.specs.declared.Month.{Month}
 use Rattle.book.specs.Book.{is_registered, no_account, participants}
-use Rattle.book.specs.Reasons.{some}
 use Rattle.book.specs.Settlement as book
+use Rattle.sound.specs.declared.made.Totals.{Totals}
 use Rattle.settlement.specs.declared.figures.Figures.{Figures}
-use Rattle.settlement.specs.declared.listing.Settlement.{Settlement}
-use Rattle.settlement.specs.Figures.{figures_in, no_figures, exceeds}
-use Rattle.settlement.specs.Listing.{filled, listing, appended_to, figures_at, settled_from, excess_from}
+use Rattle.settlement.specs.declared.listing.Listing.{Listing}
+use Rattle.settlement.specs.Figures.{figures_in, no_figures}
+use Rattle.settlement.specs.Listing.{filled, figures_at, settled_from}
+use Rattle.settlement.specs.Lists.{Lists}
 
--- ---- one more in the list
+-- ---- nobody, and one more
+pub lists_none : {s : Listing} → s.count ≡ 0 → s.figures ≡ replicate participants no_figures → Lists s []
+lists_none c f = record { count_is = c; figures_are = f }
+
 module _ (l : List book.Figures) (f : book.Figures) (there : length l < participants) where
   longer : length (l ++ (f ∷ [])) ≡ length l + 1
   longer = length-append l (f ∷ [])
@@ -33,11 +37,14 @@ module _ (l : List book.Figures) (f : book.Figures) (there : length l < particip
       ∙ ap (λ (us : List Figures). us ++ rest) (sym (map-append figures_in l (f ∷ [])))
       ∙ ap (λ (k : ℕ). map figures_in (l ++ (f ∷ [])) ++ replicate (participants - k) no_figures) (sym longer)
 
-  pub listing_more : (reason : ℕ) → appended_to (listing reason l) (figures_in f) ≡ listing reason (l ++ (f ∷ []))
-  listing_more reason = λ i. record { reason = reason; count = sym longer i; figures = filled_more i }
+  pub lists_more : {s t : Listing} {g : Figures} → Lists s l → g ≡ figures_in f → (t.count ≡ s.count + 1) × (t.figures ≡ set s.figures s.count g) → Lists t (l ++ (f ∷ []))
+  lists_more h e p = record {
+    count_is = p.0 ∙ ap (λ n. n + 1) h.count_is ∙ sym longer;
+    figures_are = p.1 ∙ (λ i. set (h.figures_are i) (h.count_is i) (e i)) ∙ filled_more;
+  }
 
 -- ---- the participants below n
-module _ (m : Month) (lv : List ℕ) (accounts : List Account) (ts : List ℕ) where
+module _ (m : Month) (lv : List ℕ) (accounts : List Account) (ts : List Totals) where
   abbrev so_far : ℕ → List book.Figures
   so_far n = settled_from m lv accounts ts n
 
@@ -51,26 +58,7 @@ module _ (m : Month) (lv : List ℕ) (accounts : List Account) (ts : List ℕ) w
       by true h = omega (arith, length-append (so_far n) (figures_at m lv accounts ts n ∷ []))
       by false h = omega (arith, length-append (so_far n) [])
 
-  pub settled_none : listing 0 [] ≡ listing 0 (so_far 0)
+  -- the next one, whether it is registered or not
+  pub settled_more : (n : ℕ) (t : Bool) → is_registered (get_or accounts n no_account) ≡ t → settled_from m lv accounts ts (n + 1) ≡ so_far n ++ cond t (figures_at m lv accounts ts n ∷ []) []
   unfolding settled_from
-  settled_none = refl
-
-  -- the next one
-  pub settled_more : (n : ℕ) → n < participants → (s r : Settlement) → s ≡ listing 0 (so_far n)
-      → r ≡ cond (is_registered (get_or accounts n no_account)) (appended_to s (figures_in (figures_at m lv accounts ts n))) s → r ≡ listing 0 (so_far (n + 1))
-  unfolding settled_from
-  settled_more n h s r e g = g ∙ rw (add-one n) (by (is_registered (get_or accounts n no_account)))
-    where
-      by : (t : Bool) → cond t (appended_to s (figures_in (figures_at m lv accounts ts n))) s ≡ listing 0 (so_far n ++ cond t (figures_at m lv accounts ts n ∷ []) [])
-      by true = ap (λ (x : Settlement). appended_to x (figures_in (figures_at m lv accounts ts n))) e ∙ listing_more (so_far n) (figures_at m lv accounts ts n) (omega (arith, settled_most n)) 0
-      by false = e ∙ ap (listing 0) (sym (append-nil (so_far n)))
-
-  -- ---- an excess among them
-  pub excess_none : false ≡ excess_from m lv accounts ts 0
-  unfolding excess_from some
-  excess_none = refl
-
-  pub excess_more : (n : ℕ) {found here : Bool} → found ≡ excess_from m lv accounts ts n → here ≡ exceeds m lv (get_or accounts n no_account) (get_or ts (32 + n) 0) n
-      → (found || here) ≡ excess_from m lv accounts ts (n + 1)
-  unfolding excess_from some
-  excess_more n p q = rw (add-one, p, q)
+  settled_more n t e = rw (add-one n, e)

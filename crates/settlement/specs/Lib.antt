@@ -1,3 +1,4 @@
 pub mod Figures
 pub mod Listing
+pub mod Lists
 pub mod Settling

@@ -1,22 +1,21 @@
-// One participant's figures, from its account, the month, the levels and its totals.
-ghost use Rattle.std.specs.Prelude.{◌≡◌, Bool, ◌-◌, ◌*◌, ◌≤◌, ◌<◌, pos, nat_abs};
-ghost use Rattle.std.specs.Int.Signed.{le_z};
-ghost use Rattle.book.specs.Book.{most_price};
+// One participant's figures, from its account, its totals, and the month and the levels of the book.
+ghost use Rattle.std.specs.Prelude.{◌≡◌, ◌*◌, nat_abs};
 ghost use Rattle.credits.specs.Credits.{dsm_at};
 ghost use Rattle.settlement.specs.Figures.{figures_in, no_figures, credits_from, figures_from, exceeds};
 ghost use Rattle.settlement.specs.Listing.{Settleable};
 
 use book::{Account, Month};
 use credits::{dsm, tradeable};
-use reasons::{both, is_generator};
-use units::{Cents, Thousandths};
+use reasons::is_generator;
+use sound::Totals;
+use units::Thousandths;
 
 // Thousandths of a cent.
-#[derive(Clone, Copy)]
+#[derive(Clone, Copy, PartialEq, Eq, PartialOrd, Ord)]
 pub struct Pay(pub u64);
 
 // What settlement says of a participant.
-#[derive(Clone, Copy)]
+#[derive(Clone, Copy, PartialEq, Eq)]
 pub struct Figures {
     pub participant: u8,
     pub tradeable: Thousandths,
@@ -33,90 +32,81 @@ pub struct Figures {
 pub fn no_figures() -> Figures
     ensures { result ≡ no_figures }
 {
+    let none = Thousandths(0);
     Figures {
         participant: 0,
-        tradeable: Thousandths(0),
-        made: Thousandths(0),
-        received: Thousandths(0),
-        left: Thousandths(0),
-        over: Thousandths(0),
-        short: Thousandths(0),
-        dsm: Thousandths(0),
+        tradeable: none,
+        made: none,
+        received: none,
+        left: none,
+        over: none,
+        short: none,
+        dsm: none,
         pay: Pay(0),
     }
 }
 
-// How far one quantity is above another, else 0.
-fn above(x: Thousandths, y: Thousandths) -> Thousandths
-    ensures { result.0 ≡ x.0 - y.0 }
-{
-    if x.0 < y.0 {
-        return Thousandths(0);
+// An open month and its levels, of a book that may be used: each number is inside its limits.
+#[derive(Clone, Copy)]
+pub struct Open<'a> {
+    pub month: Month,
+    pub levels: &'a [u32],
+    ghost settleable: { Settleable month levels.now },
+}
+
+impl Open<'_> {
+    // Tradeable credits; a participant that is no generator has none.
+    #[tactic(auto, using(credits::proofs::Sums::tradeable_most))]
+    fn credits(&self, a: Account, p: u8) -> Thousandths
+        ensures { result.0 ≡ credits_from self.now.month self.now.levels.now a p }
+    {
+        if is_generator(a.roles) {
+            Thousandths(tradeable(self.levels, self.month.days, p) as u32)
+        } else {
+            Thousandths(0)
+        }
     }
-    Thousandths(x.0 - y.0)
-}
 
-// A quantity at a price in cents per MW.
-fn pay_for(quantity: Thousandths, price: Cents) -> Pay
-    requires { (le_z (pos 0) price.0 ≡ Bool.true) × (nat_abs price.0 ≤ most_price) }
-    ensures { result.0 ≡ quantity.0 * nat_abs price.0 }
-{
-    Pay(quantity.0 as u64 * price.0 as u64)
-}
-
-// Tradeable credits; a participant that is no generator has none.
-fn credits_of(m: Month, levels: &[u32], a: Account, p: u8) -> Thousandths
-    requires { Settleable m levels.now }
-    ensures { result.0 ≡ credits_from m levels.now a p }
-{
-    if is_generator(a.roles) {
-        return Thousandths(tradeable(levels, m.days, p) as u32);
+    #[tactic(auto, using(credits::proofs::Sums::dsm_most))]
+    fn dsm(&self, p: u8) -> Thousandths
+        ensures { result.0 ≡ dsm_at self.now.levels.now self.now.month.days p }
+    {
+        Thousandths(dsm(self.levels, self.month.days, p) as u32)
     }
-    Thousandths(0)
-}
 
-// DSM.
-fn dsm_of(m: Month, levels: &[u32], p: u8) -> Thousandths
-    requires { Settleable m levels.now }
-    ensures { result.0 ≡ dsm_at levels.now m.days p }
-{
-    Thousandths(dsm(levels, m.days, p) as u32)
-}
-
-// The eight figures.
-pub fn figures_of(
-    m: Month,
-    levels: &[u32],
-    a: Account,
-    made: Thousandths,
-    received: Thousandths,
-    p: u8,
-) -> Figures
-    requires { Settleable m levels.now }
-    ensures { result ≡ figures_in (figures_from m levels.now a made.0 received.0 p) }
-{
-    let credits = credits_of(m, levels, a, p);
-    let requirement = a.requirement;
-    let over = above(received, requirement);
-    Figures {
-        participant: p,
-        tradeable: credits,
-        made,
-        received,
-        left: above(credits, made),
-        over,
-        short: above(requirement, received),
-        dsm: dsm_of(m, levels, p),
-        pay: pay_for(over, m.price),
+    // What a quantity costs at the month's price, in cents per MW.
+    fn pay_for(&self, quantity: Thousandths) -> Pay
+        ensures { result.0 ≡ quantity.0 * nat_abs self.now.month.price.0 }
+    {
+        Pay(quantity.0 as u64 * self.month.price.0 as u64)
     }
-}
 
-// Whether a generator has made more than its credits.
-pub fn has_excess(m: Month, levels: &[u32], a: Account, made: Thousandths, p: u8) -> bool
-    ensures { result ≡ exceeds m levels.now a made.0 p }
-{
-    both(
-        is_generator(a.roles),
-        tradeable(levels, m.days, p) < made.0 as u64,
-    )
+    // The eight figures.
+    #[tactic(auto, unfolding(crate::specs::Figures::figures_from))]
+    pub fn figures(&self, a: Account, t: Totals, p: u8) -> Figures
+        ensures { result ≡ figures_in (figures_from self.now.month self.now.levels.now a t.made.0 t.received.0 p) }
+    {
+        let credits = self.credits(a, p);
+        let received = t.received;
+        let over = received.above(a.requirement);
+        Figures {
+            participant: p,
+            tradeable: credits,
+            made: t.made,
+            received,
+            left: credits.above(t.made),
+            over,
+            short: a.requirement.above(received),
+            dsm: self.dsm(p),
+            pay: self.pay_for(over),
+        }
+    }
+
+    // Whether a generator has made more than its credits.
+    #[tactic(auto, unfolding(crate::specs::Figures::exceeds))]
+    pub fn has_excess(&self, a: Account, t: Totals, p: u8) -> bool
+        ensures { result ≡ exceeds self.now.month self.now.levels.now a t.made.0 p }
+    {
+        is_generator(a.roles) && self.credits(a, p) < t.made
+    }
 }

@@ -1,94 +1,61 @@
-// Settlement of a lent book into a lent room, or of a book that is handed over.
-ghost use Rattle.std.specs.Prelude.{◌≡◌, ◌≤◌, eqb, length};
-ghost use Rattle.book.specs.Book.{participants};
+// Settlement of a lent book into a lent room, or of a book that is held whole.
+ghost use Rattle.std.specs.Prelude.{◌≡◌};
 ghost use Rattle.sound.specs.Check.{book_from};
-ghost use Rattle.settlement.specs.Settling.{settlement_of, written, Settles};
+ghost use Rattle.settlement.specs.Settling.{SettlesWhole, Settles};
 
-use crate::figures::Figures;
-use crate::listing::{Settlement, settled_on};
-use book::{Account, Allocation, Month};
-use sound::{check, check_whole};
+use crate::figures::{Figures, Open};
+use crate::listing::Listing;
+use book::{Account, Allocation, Month, Whole};
+use reasons::Reason;
+use sound::check;
 
-// The reason, or 0 and how many figures there are.
-#[derive(Clone, Copy)]
-pub struct Settled {
-    pub reason: u8,
-    pub count: u8,
-}
+// A room for figures has a place for each participant.
+const PLACES: usize = 32;
 
-// The settlement of a book that is handed over.
-pub fn settle_whole(
+// The settlement of a lent book, whatever it holds and however long its tables are.
+fn settled(
     month: Month,
-    accounts: [Account; 32],
+    accounts: &[Account],
     levels: &[u32],
-    ledger: [Allocation; 256],
-) -> Settlement
-    ensures { result ≡ settlement_of (book_from month accounts levels.now ledger) }
+    ledger: &[Allocation],
+) -> Result<Listing, Reason>
+    ensures { SettlesWhole (book_from month accounts.now levels.now ledger.now) result }
 {
-    settled_on(
-        true,
-        check_whole(month, accounts, levels, ledger),
-        month,
-        levels,
-    )
-}
-
-// Whether a room for figures has a place for each participant.
-fn has_room(places: usize) -> bool
-    ensures { result ≡ eqb places participants }
-{
-    places == 32
-}
-
-// How many figures there are.
-fn count_of(s: Settlement) -> usize
-    ensures { result ≡ s.count }
-{
-    s.count as usize
-}
-
-// The places of the figures.
-fn figures_in(s: Settlement) -> [Figures; 32]
-    ensures { result ≡ s.figures }
-{
-    s.figures
-}
-
-// The first n figures, written to the first n places of a room; the rest of it stays.
-fn write(room: &mut [Figures], s: Settlement, n: usize)
-    requires { (n ≤ length room.old) × (n ≤ participants) }
-    ensures { room.new ≡ written s.figures n room.old }
-{
-    let figures = figures_in(s);
-    let mut i: usize = 0;
-    while i < n {
-        room[i] = figures[i];
-        i += 1;
+    let found = check(month, accounts, levels, ledger);
+    if !found.usable {
+        return Err(Reason::Unusable);
     }
-}
-
-// What is said of a settlement whose figures were written.
-fn in_short(s: Settlement) -> Settled
-    ensures { result ≡ record { reason = s.reason; count = s.count } }
-{
-    Settled {
-        reason: s.reason,
-        count: s.count,
+    if month.days == 0 {
+        return Err(Reason::NoMonth);
     }
+    let open = Open { month, levels };
+    if open.any_excess(&found.accounts, &found.totals) {
+        return Err(Reason::Excess);
+    }
+    Ok(open.listed(&found.accounts, &found.totals))
 }
 
-// The settlement of a lent book, whatever it holds and however long its tables are, into a lent room.
+// The settlement of a book that is held whole.
+pub fn settle_whole(book: &Whole, levels: &[u32]) -> Result<Listing, Reason>
+    ensures { SettlesWhole (book_from book.now.month book.now.accounts levels.now book.now.ledger) result }
+{
+    settled(book.month, &book.accounts, levels, &book.ledger)
+}
+
+// The settlement of a lent book, into a lent room: how many figures there are.
 pub fn settle(
     month: Month,
     accounts: &[Account],
     levels: &[u32],
     ledger: &[Allocation],
     figures: &mut [Figures],
-) -> Settled
+) -> Result<u8, Reason>
     ensures { Settles (book_from month accounts.now levels.now ledger.now) figures.old result figures.new }
 {
-    let found = check(month, accounts, levels, ledger);
-    let s = settled_on(has_room(figures.len()), found, month, levels);
-    write(&mut *figures, s, count_of(s));
-    in_short(s)
+    if figures.len() != PLACES {
+        return Err(Reason::Unusable);
+    }
+    let list = settled(month, accounts, levels, ledger)?;
+    figures[..list.count as usize].copy_from_slice(list.figures());
+    Ok(list.count)
 }

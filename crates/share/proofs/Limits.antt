@@ -1,16 +1,16 @@
 -- What is below the limit. Of a request that is not too large: each weight times the amount, with the total. Never too
 -- large: up to 256 weights of up to 20,000,000 each and an amount of up to 100,000,000,000, which covers the operator's
 -- cut (01) and the targeted cost (02, R-11).
-use mathlib.Core.Path.{◌≡◌, ap, sym, ◌∙◌}
+use mathlib.Core.Path.{◌≡◌}
 use mathlib.Core.Bool.{false}
 use mathlib.Core.List.{List}
-use Prim.Native.Nat.{ℕ, ◌+◌, ◌*◌, min, ◌≤◌, ◌<◌}
+use Prim.Native.Nat.{ℕ, ◌+◌, ◌-◌, ◌*◌, ◌^◌, min, ◌≤◌, ◌<◌}
 use native.Mathlib.Nat.{mul-le-mul, mul-le-mul_right}
-use native.Mathlib.Decide.{dec_le}
 use native.Mathlib.Omega.{arith}
-use borrow.Author.Tests.{leb-false, le-leb, lt-leb}
+use borrow.Author.Tests.{leb-false, lt-leb}
 use lib.Dec.{leb}
 use lib.ListN.{length}
+use Rattle.std.proofs.lemmas.Bool.Decides.{nat_tests}
 use Rattle.share.specs.Totals.{at, total, largest}
 use Rattle.share.specs.Answers.{limit, too_large}
 use Rattle.share.proofs.Sums.{total-at, sum_bound}
@@ -27,13 +27,9 @@ pub total_below : (w : List ℕ) (c : ℕ) → too_large w c ≡ false → total
 unfolding too_large
 total_below w c e = omega (arith, leb-false limit (largest (length w) (at w) * c + total w) e)
 
--- The test may stop counting the total at the limit.
-pub capped : (p t : ℕ) → leb limit (p + min t limit) ≡ leb limit (p + t)
-capped p t = go (dec_le limit t)
-  where
-    go : Dec (limit ≤ t) → leb limit (p + min t limit) ≡ leb limit (p + t)
-    go (yes l) = le-leb limit (p + min t limit) (omega arith) ∙ sym (le-leb limit (p + t) (omega arith))
-    go (no l) = let e : min t limit ≡ t = omega arith in ap (λ k. leb limit (p + k)) e
+-- The test may count each part, and both, only as far as 64 bits hold.
+pub counted : (p t : ℕ) → leb limit (min (min p (2 ^ 64 - 1) + min t (2 ^ 64 - 1)) (2 ^ 64 - 1)) ≡ leb limit (p + t)
+counted p t = grind (arith, nat_tests)
 
 -- The requests of both callers are never too large.
 pub never_too_large : (w : List ℕ) (c : ℕ)

@@ -4,11 +4,13 @@
 use mathlib.Core.Path.{◌≡◌, refl, ap, sym, ◌∙◌}
 use mathlib.Core.Logic.{◌≢◌, ⊎_elim}
 use mathlib.Core.List.{List, [], ◌∷◌}
-use Prim.Native.Nat.{ℕ, zero, suc, ◌+◌, ◌*◌, ◌≤◌, ◌<◌}
+use Prim.Native.Nat.{ℕ, zero, suc, ◌+◌, ◌*◌, ◌≤◌, ◌<◌, min}
 use native.Mathlib.Nat.{not-suc-le-zero, eq-or-lt_of_le, le_of_suc-le-suc}
 use native.Mathlib.Numerals.{add-one}
 use native.Mathlib.Omega.{arith}
 use lib.ListN.{length, get_or-eq_default}
+use Rattle.std.specs.List.{fold, sum}
+use Rattle.std.proofs.lemmas.List.Recursion.{is_sum_by}
 use Rattle.share.specs.Totals.{at, total, sum_to}
 
 -- The first term taken apart.
@@ -16,6 +18,17 @@ sum_front : (n : ℕ) (f : ℕ → ℕ) → sum_to (suc n) f ≡ f 0 + sum_to n 
 unfolding sum_to
 sum_front zero f = omega arith
 sum_front (suc n) f = omega (arith, sum_front n f)
+
+-- A list's total is the library's sum.
+pub total-sum : (xs : List ℕ) → total xs ≡ sum xs
+unfolding total
+total-sum xs = is_sum_by total (λ x. x) refl (λ _ _. refl) xs
+
+-- Counted up to a number m at each step, it is counted up to m.
+pub total_capped : (m s : ℕ) (xs : List ℕ) → s ≤ m → fold (λ a x. min (a + x) m) s xs ≡ min (s + total xs) m
+unfolding total
+total_capped m s [] h = omega arith
+total_capped m s (x ∷ xs) h = omega (arith, total_capped m (min (s + x) m) xs (omega arith))
 
 -- A list's total, by its indices.
 pub total-at : (xs : List ℕ) → total xs ≡ sum_to (length xs) (at xs)

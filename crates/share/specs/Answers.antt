@@ -1,8 +1,8 @@
 -- How a request to share ends: the answer, and what the lent shares are afterwards. A request that is not shared leaves
 -- them as they were. Every request has one answer, the first in the order of the tests.
-use Rattle.std.specs.Prelude.{Bool, cond, not, ◌&&◌, List, ℕ, ◌+◌, ◌*◌, ◌^◌, leb, ltb, eqb, length}
-use Rattle.share.specs.declared.Sharing.{Sharing}
-use Rattle.share.specs.declared.Sharing.TheVariants.{Shared, LengthsDiffer, TooLarge, NoWeight}
+use Rattle.std.specs.Prelude.{Bool, cond, not, ◌&&◌, List, ℕ, ◌+◌, ◌*◌, ◌^◌, leb, ltb, eqb, length, Result, Ok, Err}
+use Rattle.share.specs.declared.Unshared.{Unshared}
+use Rattle.share.specs.declared.Unshared.TheVariants.{LengthsDiffer, TooLarge, NoWeight}
 use Rattle.share.specs.Totals.{at, total, largest}
 use Rattle.share.specs.Shares.{share_of}
 
@@ -19,15 +19,14 @@ unfoldable pub no_weight : List ℕ → ℕ → Bool
 no_weight w c = ltb 0 c && eqb (total w) 0
 
 -- The answer, where n shares are lent.
-unfoldable pub answer_of : List ℕ → ℕ → ℕ → Sharing
-answer_of w c n = cond (not (eqb n (length w))) LengthsDiffer (cond (too_large w c) TooLarge (cond (no_weight w c) NoWeight Shared))
+unfoldable pub answer_of : List ℕ → ℕ → ℕ → Result (Unit {0}) Unshared
+answer_of w c n =
+    cond (not (eqb n (length w))) (Err LengthsDiffer) (cond (too_large w c) (Err TooLarge) (cond (no_weight w c) (Err NoWeight) (Ok tt)))
 
--- The new shares where the answer is `Shared`, and else the old ones.
-unfoldable pub settled : Sharing → List ℕ → List ℕ → List ℕ
-settled Shared new old = new
-settled LengthsDiffer new old = old
-settled TooLarge new old = old
-settled NoWeight new old = old
+-- The new shares where the request is shared, and else the old ones.
+unfoldable pub settled : Result (Unit {0}) Unshared → List ℕ → List ℕ → List ℕ
+settled (Ok _) new old = new
+settled (Err _) new old = old
 
 -- The lent shares x afterwards.
 unfoldable pub shares_after : List ℕ → ℕ → List ℕ → List ℕ

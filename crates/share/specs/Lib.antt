@@ -1,7 +1,5 @@
--- What the contracts cite, each file on those above it: totals, the method, what it is worth, how a request ends, and
--- what the parts of the code ask of each other.
+-- What the contracts cite, each file on those above it: totals, the method, what it is worth, and how a request ends.
 pub mod Totals
 pub mod Shares
 pub mod Nearness
 pub mod Answers
-pub mod Parts

@@ -1,5 +1,4 @@
-pub mod Turns
+pub mod Whole
 pub mod Tally
 pub mod Fits
-pub mod Loaded
 pub mod Usable

@@ -1,80 +1,89 @@
--- The test of a lent book as the code makes it, part by part and table by table; `proofs/Fits` shows that it is `sound`. Assumes nothing.
-use Rattle.std.specs.Prelude.{Bool, cond, not, ◌&&◌, List, ◌≡◌, ℕ, ◌+◌, ◌*◌, ◌<◌, eqb, leb, ltb, length, get_or, set}
+-- The totals of a ledger, and the test of a lent book as the code makes it, each table whole; `proofs/Fits` shows that it is `sound`. Assumes nothing.
+use Rattle.std.specs.Prelude.{Bool, true, cond, not, ◌&&◌, List, ◌≡◌, ℕ, ◌+◌, ◌/◌, ◌<◌, eqb, leb, ltb, length, get_or, set}
+use Rattle.std.specs.List.{list_all, fold, enumerate_from}
+use Rattle.std.specs.Simd.{first_chunks}
+use Rattle.units.specs.declared.Thousandths.{Thousandths}
 use Rattle.units.specs.Capped.{capped}
-use Rattle.book.specs.declared.Window.{Window}
 use Rattle.book.specs.declared.Month.{Month}
 use Rattle.book.specs.declared.Account.{Account}
 use Rattle.book.specs.declared.Allocation.{Allocation}
-use Rattle.book.specs.Book.{Book, no_window, no_account, no_allocation, status_number, participants, most_given, most_level, most_quantity}
+use Rattle.book.specs.Book.{Book, is_generator, is_customer, no_account, status_number, participants, most_given, most_level, most_quantity, level_places}
 use Rattle.book.specs.Words.{total, pending_in, accepted_in, received_in}
-use Rattle.book.specs.Sound.{each, is_no_window, window_sound, is_no_month, month_sound, is_no_account, account_sound, is_no_allocation}
-use Rattle.reasons.specs.Parts.{generates, consumes, pends, counts}
+use Rattle.book.specs.Sound.{is_no_month, is_no_account, is_no_allocation, month_sound, account_sound}
+use Rattle.reasons.specs.Parts.{pends, counts}
+use Rattle.sound.specs.declared.made.Totals.{Totals}
 
 -- a book from its four parts
 abbrev pub book_from : Month → List Account → List ℕ → List Allocation → Book
 book_from m accounts lv ledger = record { month = m; accounts = accounts; levels = lv; ledger = ledger }
 
--- ---- each part, in the fresh book or in an open one
-abbrev pub window_fits : Bool → Window → Bool
-window_fits fresh w = cond fresh (is_no_window w) (window_sound w)
+-- ---- the totals
+abbrev pub no_totals : Totals
+no_totals = record { pending = record { 0 = 0 }; made = record { 0 = 0 }; received = record { 0 = 0 } }
 
-unfoldable pub windows_fit : Bool → List Window → Bool
-windows_fit fresh windows = each 4 (λ i. window_fits fresh (get_or windows i no_window))
+-- the totals of any ledger, capped at what a quantity can hold
+pub record CappedTotals (ts : List Totals) (ledger : List Allocation) : Type 0 where
+  pub long : length ts ≡ participants
+  pub pending : (p : ℕ) → p < participants → (get_or ts p no_totals).pending.0 ≡ capped (total (pending_in p) ledger)
+  pub made : (p : ℕ) → p < participants → (get_or ts p no_totals).made.0 ≡ capped (total (accepted_in p) ledger)
+  pub received : (p : ℕ) → p < participants → (get_or ts p no_totals).received.0 ≡ capped (total (received_in p) ledger)
 
-abbrev pub month_fits : Bool → Month → Bool
-month_fits fresh m = cond fresh (is_no_month m) (month_sound m)
+-- a total with so much more
+abbrev pub more : Thousandths → ℕ → Thousandths
+more t n = record { 0 = capped (t.0 + n) }
 
-abbrev pub account_fits : Bool → Account → Bool
-account_fits fresh a = cond fresh (is_no_account a) (account_sound a)
+-- what a record adds to the totals of its generator, and of its customer
+abbrev pub as_generator : Allocation → Totals → Totals
+as_generator l t = record t { pending = more t.pending (pends l); made = more t.made (counts l) }
 
-unfoldable pub accounts_fit : Bool → List Account → Bool
-accounts_fit fresh accounts = each participants (λ p. account_fits fresh (get_or accounts p no_account))
+abbrev pub as_customer : Allocation → Totals → Totals
+as_customer l t = record t { received = more t.received (counts l) }
 
--- the most that a level may be on a day, from 0: nothing after the month's last, and so nothing at all where no month is open
+-- to the totals of one participant; nobody past the last one has any
+abbrev pub added_to : ℕ → (Totals → Totals) → List Totals → List Totals
+added_to p f ts = cond (ltb p participants) (set ts p (f (get_or ts p no_totals))) ts
+
+unfoldable pub added_in : Allocation → List Totals → List Totals
+added_in l ts = added_to l.customer (as_customer l) (added_to l.generator (as_generator l) ts)
+
+-- ---- the lengths of the tables
+abbrev pub lengths_fit : Book → Bool
+lengths_fit b = eqb (length b.accounts) participants && (eqb (length b.levels) level_places && eqb (length b.ledger) most_given)
+
+-- ---- the fresh book
+abbrev pub fresh_fits : Book → Bool
+fresh_fits b = is_no_month b.month && (list_all is_no_account b.accounts && (list_all (λ l. eqb l 0) b.levels && list_all is_no_allocation b.ledger))
+
+-- ---- a book with a month open
+-- the most that a level may be on a day, from 0: nothing after the month's last
 abbrev pub most_on : ℕ → ℕ → ℕ
 most_on days day = cond (ltb day days) most_level 0
 
--- the levels of one participant and kind, 31 of them from a place on, and the 128 rows of the table
-unfoldable pub row_fits : ℕ → List ℕ → ℕ → Bool
-row_fits days lv from = each 31 (λ day. leb (get_or lv (from + day) 0) (most_on days day))
+-- the levels of one participant and kind, and those of all, 31 in a row
+abbrev pub row_fits : ℕ → List ℕ → Bool
+row_fits days row = fold (λ fits p. fits && leb p.1 (most_on days p.0)) true (enumerate_from 0 row)
 
-unfoldable pub levels_fit : ℕ → List ℕ → Bool
-levels_fit days lv = each 128 (λ row. row_fits days lv (row * 31))
+abbrev pub levels_fit : ℕ → List ℕ → Bool
+levels_fit days lv = list_all (row_fits days) (first_chunks 31 (length lv / 31) lv)
 
--- a record up to the number given, from the roles of its generator and its customer
-unfoldable pub given_fits : Allocation → ℕ → ℕ → Bool
-given_fits l makes takes = not (eqb (status_number l.status) 0) && (generates makes && (consumes takes && leb l.quantity.0 most_quantity))
+-- a record up to the number given, by the accounts of its parties
+unfoldable pub given_fits : List Account → Allocation → Bool
+given_fits accounts l =
+    not (eqb (status_number l.status) 0)
+    && (is_generator (get_or accounts l.generator no_account) && (is_customer (get_or accounts l.customer no_account) && leb l.quantity.0 most_quantity))
 
--- such a record, or a later one; nobody past the accounts has a role
+-- such a record, or a later one
 abbrev pub record_fits : ℕ → List Account → ℕ → Allocation → Bool
-record_fits given accounts i l =
-    cond (ltb i given) (given_fits l (get_or accounts l.generator no_account).roles (get_or accounts l.customer no_account).roles) (is_no_allocation l)
+record_fits given accounts i l = cond (ltb i given) (given_fits accounts l) (is_no_allocation l)
 
-unfoldable pub records_fit : ℕ → List Account → List Allocation → Bool
-records_fit given accounts ledger = each most_given (λ i. record_fits given accounts i (get_or ledger i no_allocation))
+abbrev pub records_fit : ℕ → List Account → List Allocation → Bool
+records_fit given accounts ledger = list_all (λ p. record_fits given accounts p.0 p.1) (enumerate_from 0 ledger)
 
--- what each generator has pending and accepted, from the table of totals
-unfoldable pub held_fits : List ℕ → Bool
-held_fits ts = each participants (λ p. leb (get_or ts p 0 + get_or ts (32 + p) 0) most_quantity)
+-- what each generator has pending and accepted, by its totals
+abbrev pub held_fits : List Totals → Bool
+held_fits ts = list_all (λ t. leb (capped (t.pending.0 + t.made.0)) most_quantity) ts
 
--- the whole: where no month is open it has to be the fresh book
-unfoldable pub book_fits : Month → List Account → List ℕ → List Allocation → List ℕ → Bool
-book_fits m accounts lv ledger ts =
-    month_fits (eqb m.days 0) m
-    && (accounts_fit (eqb m.days 0) accounts && (levels_fit m.days lv && (records_fit m.given accounts ledger && held_fits ts)))
-
--- ---- the table of totals
--- a quantity added to a participant's total, in the part of the table that begins at a place
-unfoldable pub added_to : ℕ → ℕ → ℕ → List ℕ → List ℕ
-added_to from p q ts = cond (ltb p participants) (set ts (from + p) (capped (get_or ts (from + p) 0 + q))) ts
-
--- what a record adds for its parties
-unfoldable pub added_in : Allocation → List ℕ → List ℕ
-added_in l ts = added_to 64 l.customer (counts l) (added_to 32 l.generator (counts l) (added_to 0 l.generator (pends l) ts))
-
--- the totals of any ledger, capped at what a quantity can hold
-pub record CappedTotals (ts : List ℕ) (ledger : List Allocation) : Type 0 where
-  pub long : length ts ≡ 96
-  pub pending : (p : ℕ) → p < participants → get_or ts p 0 ≡ capped (total (pending_in p) ledger)
-  pub made : (p : ℕ) → p < participants → get_or ts (32 + p) 0 ≡ capped (total (accepted_in p) ledger)
-  pub received : (p : ℕ) → p < participants → get_or ts (64 + p) 0 ≡ capped (total (received_in p) ledger)
+abbrev pub open_fits : Book → List Totals → Bool
+open_fits b ts =
+    month_sound b.month
+    && (list_all account_sound b.accounts && (levels_fit b.month.days b.levels && (records_fit b.month.given b.accounts b.ledger && held_fits ts)))

@@ -3,11 +3,13 @@
 #![tactic(auto)]
 
 mod adding; // adding.rt: the totals of a ledger
-mod lent; // lent.rt: tables copied out of lent runs of records
-mod limits; // limits.rt: one part of a book against its limits
-mod tables; // tables.rt: one pass over each table
+mod lent; // lent.rt: a ledger copied out of a lent run of records
+mod limits; // limits.rt: one part of a book, whether it is zero or inside its limits
+mod made; // made.rt: the totals of one participant
+mod tables; // tables.rt: each table of a book, whole
 mod test; // test.rt: the test of a book
 
 pub use adding::totals;
 pub use lent::records;
-pub use test::{Checked, check, check_whole};
+pub use made::{NO_TOTALS, Totals};
+pub use test::{Checked, check};

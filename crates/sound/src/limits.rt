@@ -1,150 +1,109 @@
-// One part of a book against its limits: zero in the fresh book, inside them in an open one.
-ghost use Rattle.std.specs.Prelude.{◌≡◌, cond, ◌&&◌};
-ghost use Rattle.std.specs.Int.Signed.{le_z};
-ghost use Rattle.book.specs.Sound.{is_no_allocation};
-ghost use Rattle.sound.specs.Check.{window_fits, windows_fit, month_fits, account_fits, given_fits};
+// One part of a book: whether it is zero, as in the fresh book, and whether it is inside its limits,
+// as in an open one.
+ghost use Rattle.std.specs.Prelude.{◌≡◌, cond, get_or};
+ghost use Rattle.std.specs.List.{list_all};
+ghost use Rattle.book.specs.Book.{no_account};
+ghost use Rattle.book.specs.Sound.{is_no_month, is_no_account, is_no_allocation, window_sound, month_sound, account_sound};
+ghost use Rattle.sound.specs.Check.{given_fits, record_fits};
 
-use book::{Account, Allocation, Month, Window};
-use reasons::{
-    LEAST_FIGURE, MOST_FIGURE, MOST_GIVEN, MOST_PRICE, MOST_QUANTITY, both, is_customer,
-    is_generator, negated, number_of,
+use book::{
+    Account, Allocation, Margin, Month, NO_ACCOUNT, NO_ALLOCATION, Status, Window, fresh_month,
 };
-use units::{Cents, Minutes, Net};
+use reasons::{
+    BOTH, FEWEST_DAYS, LEAST_FIGURE, MOST_DAYS, MOST_FIGURE, MOST_GIVEN, MOST_PRICE, MOST_QUANTITY,
+    is_customer, is_generator,
+};
+use units::{Cents, Minutes, Net, Thousandths};
 
-const FEWEST_DAYS: u8 = 28;
+const LEAST_END: Minutes = Minutes(-1_000_000);
 
-const MOST_DAYS: u8 = 31;
+const MOST_END: Minutes = Minutes(1_000_000);
 
-const LEAST_END: i32 = -1_000_000;
+const LEAST_NET: Net = Net(-640_000_000);
 
-const MOST_END: i32 = 1_000_000;
+const MOST_NET: Net = Net(640_000_000);
 
-const LEAST_NET: i64 = -640_000_000;
-
-const MOST_NET: i64 = 640_000_000;
-
-// A time from one to another.
-fn time_in(low: Minutes, high: Minutes, t: Minutes) -> bool
-    ensures { result ≡ (le_z low.0 t.0 && le_z t.0 high.0) }
+#[tactic(auto, unfolding(book::specs::Sound::is_no_month))]
+pub fn is_no_month(m: Month) -> bool
+    ensures { result ≡ is_no_month m }
 {
-    both(low.at_most(t), t.at_most(high))
+    m == fresh_month()
 }
 
-// Money from one amount to another.
-fn money_in(low: Cents, high: Cents, c: Cents) -> bool
-    ensures { result ≡ (le_z low.0 c.0 && le_z c.0 high.0) }
+#[tactic(auto, unfolding(book::specs::Sound::is_no_account))]
+pub fn is_no_account(a: Account) -> bool
+    ensures { result ≡ is_no_account a }
 {
-    both(low.at_most(c), c.at_most(high))
-}
-
-// A net from one to another.
-fn net_in(low: Net, high: Net, n: Net) -> bool
-    ensures { result ≡ (le_z low.0 n.0 && le_z n.0 high.0) }
-{
-    both(low.0 <= n.0, n.0 <= high.0)
-}
-
-// A window's two ends.
-fn window_fits(fresh: bool, w: Window) -> bool
-    ensures { result ≡ window_fits fresh w }
-{
-    let opening = w.opening;
-    let closing = w.closing;
-    if fresh {
-        let none = Minutes(0);
-        both(time_in(none, none, opening), time_in(none, none, closing))
-    } else {
-        let low = Minutes(LEAST_END);
-        let high = Minutes(MOST_END);
-        both(time_in(low, high, opening), time_in(low, high, closing))
-    }
-}
-
-// The four windows.
-fn windows_fit(fresh: bool, m: Month) -> bool
-    ensures { result ≡ windows_fit fresh m.windows }
-{
-    let mut fits = true;
-    let mut k: usize = 0;
-    while k < 4 {
-        let w = m.windows[k];
-        fits = both(fits, window_fits(fresh, w));
-        k += 1;
-    }
-    fits
-}
-
-pub fn month_fits(fresh: bool, m: Month) -> bool
-    ensures { result ≡ month_fits fresh m }
-{
-    let price = m.price;
-    let last = m.last;
-    let windows = windows_fit(fresh, m);
-    if fresh {
-        let clock = time_in(Minutes(0), Minutes(0), last);
-        let rest = both(clock, both(m.given == 0, windows));
-        let priced = money_in(Cents(0), Cents(0), price);
-        both(m.days == 0, both(priced, rest))
-    } else {
-        let high = price.at_most(Cents(MOST_PRICE));
-        let rest = both(high, both(m.given <= MOST_GIVEN, windows));
-        let low = Cents(0).at_most(price);
-        both(
-            FEWEST_DAYS <= m.days,
-            both(m.days <= MOST_DAYS, both(low, rest)),
-        )
-    }
-}
-
-pub fn account_fits(fresh: bool, a: Account) -> bool
-    ensures { result ≡ account_fits fresh a }
-{
-    let margin = a.margin;
-    let figure = margin.figure;
-    let net = margin.net;
-    if fresh {
-        let margin = both(
-            money_in(Cents(0), Cents(0), figure),
-            net_in(Net(0), Net(0), net),
-        );
-        both(a.roles == 0, both(a.requirement.0 == 0, margin))
-    } else {
-        let margin = both(
-            money_in(Cents(LEAST_FIGURE), Cents(MOST_FIGURE), figure),
-            net_in(Net(LEAST_NET), Net(MOST_NET), net),
-        );
-        both(a.roles <= 3, both(a.requirement.0 <= MOST_QUANTITY, margin))
-    }
-}
-
-// A record up to the number given, from the roles of its generator and its customer.
-#[tactic(auto, unfolding(crate::specs::Check::given_fits))]
-fn is_given(l: Allocation, makes: u8, takes: u8) -> bool
-    ensures { result ≡ given_fits l makes takes }
-{
-    let s = l.status;
-    let parties = both(
-        is_generator(makes),
-        both(is_customer(takes), l.quantity.0 <= MOST_QUANTITY),
-    );
-    both(negated(number_of(s) == 0), parties)
+    a == NO_ACCOUNT
 }
 
 #[tactic(auto, unfolding(book::specs::Sound::is_no_allocation))]
-fn is_no_allocation(l: Allocation) -> bool
+pub fn is_no_allocation(l: Allocation) -> bool
     ensures { result ≡ is_no_allocation l }
 {
-    let s = l.status;
-    let parties = both(l.generator == 0, both(l.customer == 0, l.quantity.0 == 0));
-    both(number_of(s) == 0, parties)
+    l == NO_ALLOCATION
+}
+
+// A window's two ends.
+fn window_sound(w: Window) -> bool
+    ensures { result ≡ window_sound w }
+{
+    (LEAST_END..=MOST_END).contains(&w.opening) && (LEAST_END..=MOST_END).contains(&w.closing)
+}
+
+// The four windows.
+fn windows_sound(windows: &[Window]) -> bool
+    ensures { result ≡ list_all window_sound windows.now }
+{
+    windows.iter().copied().all(window_sound)
+}
+
+#[tactic(auto, unfolding(book::specs::Sound::month_sound))]
+pub fn month_sound(m: Month) -> bool
+    ensures { result ≡ month_sound m }
+{
+    (FEWEST_DAYS..=MOST_DAYS).contains(&m.days)
+        && (Cents(0)..=Cents(MOST_PRICE)).contains(&m.price)
+        && m.given <= MOST_GIVEN
+        && windows_sound(&m.windows)
+}
+
+#[tactic(auto, unfolding(book::specs::Sound::account_sound))]
+pub fn account_sound(a: Account) -> bool
+    ensures { result ≡ account_sound a }
+{
+    a.roles <= BOTH
+        && a.requirement <= Thousandths(MOST_QUANTITY)
+        && (Cents(LEAST_FIGURE)..=Cents(MOST_FIGURE)).contains(&a.margin.figure)
+        && (LEAST_NET..=MOST_NET).contains(&a.margin.net)
+}
+
+// The roles of a participant; nobody past the accounts has any.
+fn roles_in(accounts: &[Account], participant: u8) -> u8
+    ensures { result ≡ (get_or accounts.now participant no_account).roles }
+{
+    accounts
+        .get(usize::from(participant))
+        .map_or(0, |a| a.roles)
+}
+
+// A record up to the number given.
+#[tactic(auto, unfolding(crate::specs::Check::given_fits))]
+fn is_given(accounts: &[Account], l: Allocation) -> bool
+    ensures { result ≡ given_fits accounts.now l }
+{
+    l.status != Status::Empty
+        && is_generator(roles_in(accounts, l.generator))
+        && is_customer(roles_in(accounts, l.customer))
+        && l.quantity <= Thousandths(MOST_QUANTITY)
 }
 
 // A record that is given, or a later one.
-pub fn record_fits(given: bool, l: Allocation, makes: u8, takes: u8) -> bool
-    ensures { result ≡ cond given (given_fits l makes takes) (is_no_allocation l) }
+pub fn record_fits(given: u16, accounts: &[Account], i: usize, l: Allocation) -> bool
+    ensures { result ≡ record_fits given accounts.now i l }
 {
-    if given {
-        is_given(l, makes, takes)
+    if i < usize::from(given) {
+        is_given(accounts, l)
     } else {
         is_no_allocation(l)
     }

@@ -1,91 +1,87 @@
-// One pass over each table of a book.
-ghost use Rattle.std.specs.Prelude.{◌≡◌, ◌+◌, ◌≤◌, length};
-ghost use Rattle.book.specs.Book.{level_places};
-ghost use Rattle.sound.specs.Check.{accounts_fit, most_on, row_fits, levels_fit, records_fit, held_fits};
+// Each table of a book, whole. One chain in a function, since of two in one no proof is found.
+ghost use Rattle.std.specs.Prelude.{◌≡◌, eqb};
+ghost use Rattle.std.specs.List.{list_all};
+ghost use Rattle.book.specs.Sound.{is_no_account, is_no_allocation, account_sound};
+ghost use Rattle.sound.specs.Check.{most_on, row_fits, levels_fit, records_fit, held_fits};
 
-use crate::limits::{account_fits, record_fits};
+use crate::limits::{account_sound, is_no_account, is_no_allocation, record_fits};
+use crate::made::Totals;
 use book::{Account, Allocation};
-use reasons::{MOST_LEVEL, both, roles_of, slot_of};
+use reasons::{MOST_LEVEL, MOST_QUANTITY};
+use units::{Thousandths, Unit};
 
-// What a generator may have pending and accepted in all.
-const MOST_HELD: u64 = 20_000_000;
-
-// The accounts, in the fresh book or in an open one.
-pub fn accounts_fit(fresh: bool, accounts: [Account; 32]) -> bool
-    ensures { result ≡ accounts_fit fresh accounts }
+// Nobody registered.
+pub fn no_accounts(accounts: &[Account]) -> bool
+    ensures { result ≡ list_all is_no_account accounts.now }
 {
-    let mut fits = true;
-    let mut p: usize = 0;
-    while p < 32 {
-        fits = both(fits, account_fits(fresh, accounts[p]));
-        p += 1;
-    }
-    fits
+    accounts.iter().copied().all(is_no_account)
+}
+
+// No credits.
+pub fn no_levels(levels: &[u32]) -> bool
+    ensures { result ≡ list_all (λ l. eqb l 0) levels.now }
+{
+    levels.iter().all(|l| *l == 0)
+}
+
+// No allocation.
+pub fn no_allocations(ledger: &[Allocation]) -> bool
+    ensures { result ≡ list_all is_no_allocation ledger.now }
+{
+    ledger.iter().copied().all(is_no_allocation)
+}
+
+// The accounts inside their limits.
+pub fn accounts_sound(accounts: &[Account]) -> bool
+    ensures { result ≡ list_all account_sound accounts.now }
+{
+    accounts.iter().copied().all(account_sound)
 }
 
 // The most that a level may be on a day, from 0: nothing after the month's last.
-fn most_on(days: u8, day: u8) -> u32
+fn most_on(days: u8, day: usize) -> u32
     ensures { result ≡ most_on days day }
 {
-    if day < days { MOST_LEVEL } else { 0 }
-}
-
-// The levels of one participant and kind, which stand from a place on.
-fn row_fits(days: u8, levels: &[u32], from: usize) -> bool
-    requires { (length levels.now ≡ level_places) × (from + 31 ≤ level_places) }
-    ensures { result ≡ row_fits days levels.now from }
-{
-    let mut fits = true;
-    let mut day: u8 = 0;
-    while day < 31 {
-        fits = both(fits, levels[from + day as usize] <= most_on(days, day));
-        day += 1;
+    if day < usize::from(days) {
+        MOST_LEVEL
+    } else {
+        0
     }
-    fits
 }
 
-// The levels of all participants and kinds, which are 0 where no month is open.
+// The levels of one participant and kind. A whole row at a time, by `&`: to leave at the first level
+// that does not fit, as `all` does, is half as quick.
+fn row_fits(days: u8, row: &[u32]) -> bool
+    ensures { result ≡ row_fits days row.now }
+{
+    row.iter().enumerate().fold(true, |fits, (day, level)| {
+        fits & (*level <= most_on(days, day))
+    })
+}
+
+// The levels of all participants and kinds, a row of 31 for each.
 pub fn levels_fit(days: u8, levels: &[u32]) -> bool
-    requires { length levels.now ≡ level_places }
     ensures { result ≡ levels_fit days levels.now }
 {
-    let mut fits = true;
-    let mut row: usize = 0;
-    while row < 128 {
-        fits = both(fits, row_fits(days, levels, row * 31));
-        row += 1;
-    }
-    fits
+    let (rows, _) = levels.as_chunks::<31>();
+    rows.iter().all(|row| row_fits(days, row))
 }
 
 // The records, those up to the number given and the later ones.
-pub fn records_fit(given: u16, accounts: [Account; 32], t: [Allocation; 256]) -> bool
-    ensures { result ≡ records_fit given accounts t }
+pub fn records_fit(given: u16, accounts: &[Account], ledger: &[Allocation]) -> bool
+    ensures { result ≡ records_fit given accounts.now ledger.now }
 {
-    let mut fits = true;
-    let mut i: usize = 0;
-    while i < 256 {
-        let l = t[i];
-        let g = slot_of(l.generator);
-        let c = slot_of(l.customer);
-        let makes = roles_of(l.generator, accounts[g]);
-        let takes = roles_of(l.customer, accounts[c]);
-        fits = both(fits, record_fits(i < given as usize, l, makes, takes));
-        i += 1;
-    }
-    fits
+    ledger
+        .iter()
+        .enumerate()
+        .all(|(i, l)| record_fits(given, accounts, i, *l))
 }
 
 // What each generator has pending and accepted.
-pub fn held_fits(totals: [u32; 96]) -> bool
-    ensures { result ≡ held_fits totals }
+pub fn held_fits(totals: &[Totals]) -> bool
+    ensures { result ≡ held_fits totals.now }
 {
-    let mut fits = true;
-    let mut p: usize = 0;
-    while p < 32 {
-        let held = totals[p] as u64 + totals[32 + p] as u64;
-        fits = both(fits, held <= MOST_HELD);
-        p += 1;
-    }
-    fits
+    totals
+        .iter()
+        .all(|t| t.pending.plus(t.made) <= Thousandths(MOST_QUANTITY))
 }

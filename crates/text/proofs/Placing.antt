@@ -1,14 +1,14 @@
 -- Text put into a buffer in pieces, each after the one before, is the whole text put there. Assumes nothing.
 use mathlib.Core.Path.{◌≡◌, refl, sym, ap, ◌∙◌}
-use mathlib.Core.Bool.{Bool, true, false, not}
+use mathlib.Core.Bool.{Bool, false, not}
 use mathlib.Core.List.{List, [], ◌∷◌, ◌++◌, append_assoc}
 use Prim.Native.Nat.{ℕ, ◌+◌, ◌≤◌, ◌<◌}
 use native.Mathlib.Nat.{add-zero, add_assoc}
 use native.Mathlib.Numerals.{add-one}
 use lib.ListN.{length, take, drop, set, take-append-drop, length-append}
-use lib.Seq.{paste, length-take-le, take-length, take_at, drop-append-add, drop-drop, set_split}
+use lib.Seq.{length-take-le, take_at, drop-append-add, drop-drop, set_split}
 use lib.Dec.{leb}
-use borrow.Author.Tests.{leb-true, not-true, not-false}
+use borrow.Author.Tests.{leb-true, not-false}
 use Rattle.text.specs.Lines.{placed, roomy, Put, Laid}
 
 -- no text changes nothing
@@ -46,10 +46,6 @@ module _ (out : List ℕ) (at : ℕ) (inside : at ≤ length out) (a b : List �
       ∙ append_assoc (take at out) a (b ++ drop (at + length (a ++ b)) out)
       ∙ ap (λ (l : List ℕ). take at out ++ l) (sym (append_assoc a b (drop (at + length (a ++ b)) out)))
 
--- a whole list, copied
-pub pasted : (out : List ℕ) (at : ℕ) (s : List ℕ) → paste out at s (length s) ≡ placed out at s
-pasted out at s = append_assoc (take at out) (take (length s) s) (drop (at + length s) out) ∙ ap (λ (l : List ℕ). take at out ++ (l ++ drop (at + length s) out)) (take-length s)
-
 -- ---- the same as what a function promises
 
 pub put_none : (out : List ℕ) (at : ℕ) → Put out at [] out at
@@ -65,11 +61,6 @@ put_then {out} {out₁} {out₂} {a} {b} {at} {r₁} {r₂} inside p q = record 
 }
 
 -- ---- and by the test of the room
-
-pub laid_none : {most : ℕ} {out line : List ℕ} {at : ℕ} {roomy? : Bool} → roomy? ≡ roomy out at most → not roomy? ≡ true → Laid most out at line out at
-laid_none {most} {out} {line} {at} {roomy?} e h =
-    let none = sym e ∙ not-true roomy? h in
-    record { ends = rw none; bytes = rw none }
 
 pub laid : {most : ℕ} {out line out' : List ℕ} {at r : ℕ} {roomy? : Bool} → roomy? ≡ roomy out at most → not roomy? ≡ false → Put out at line out' r → Laid most out at line out' r
 laid {most} {out} {line} {out'} {at} {r} {roomy?} e h p =

@@ -1,35 +1,30 @@
--- A line of numbers, number by number: what is left of it begins with the next one, and is followed by a newline if that is the last. Assumes nothing.
-use mathlib.Core.Path.{◌≡◌, sym, ap, ◌∙◌}
-use mathlib.Core.Bool.{cond}
-use mathlib.Core.List.{List, [], ◌∷◌, ◌++◌}
-use Prim.Native.Nat.{ℕ, ◌+◌, ◌-◌, ◌≤◌, ◌<◌}
-use native.Mathlib.Numerals.{add-one}
-use native.Mathlib.Omega.{arith}
-use lib.Dec.{eqb}
-use lib.ListN.{length, get_or, drop, length-drop, drop_of_length-le}
-use lib.Seq.{drop-cons, append_snoc}
-use borrow.Author.Tests.{eq-eqb, ne_eqb}
+-- A line of numbers is each number but the last with a space after it, and then the last with a newline. Assumes nothing.
+use mathlib.Core.Path.{◌≡◌, refl, sym, ap, ◌∙◌}
+use mathlib.Core.List.{List, [], ◌∷◌, ◌++◌, append_assoc}
+use Prim.Native.Nat.{ℕ, ◌+◌, ◌<◌}
+use lib.ListN.{length, get_or, take}
+use lib.Seq.{append_snoc}
+use Rattle.std.specs.List.{flat_map}
+use Rattle.std.proofs.lemmas.List.{take_more, flat_map_more}
 use Rattle.text.specs.Lines.{newline, space, decimal, after, row}
 
--- the byte after the number at a place
-after_is : (numbers : List ℕ) (i : ℕ) → i < length numbers → cond (eqb (i + 1) (length numbers)) newline space ≡ after (drop (i + 1) numbers)
+-- a number with a space after it
+abbrev pub spaced : ℕ → List ℕ
+spaced n = decimal n ++ space ∷ []
+
+after_more : (ns : List ℕ) (last : ℕ) → after (ns ++ last ∷ []) ≡ space
 unfolding after
-after_is numbers i h = by (drop (i + 1) numbers) (length-drop (i + 1) numbers)
-  where
-    by : (rest : List ℕ) → length rest ≡ length numbers - (i + 1) → cond (eqb (i + 1) (length numbers)) newline space ≡ after rest
-    by [] e = simp (eq-eqb (i + 1) (length numbers) (omega arith))
-    by (n ∷ ns) e = simp (ne_eqb (i + 1) (length numbers) (λ q. omega arith))
+after_more [] last = refl
+after_more (n ∷ ns) last = refl
 
--- the next number with its end, and what is left after it
-pub row_next : (numbers : List ℕ) (i : ℕ) {end : ℕ} → i < length numbers → end ≡ cond (eqb (i + 1) (length numbers)) newline space
-    → row (drop i numbers) ≡ (decimal (get_or numbers i 0) ++ end ∷ []) ++ row (drop (i + 1) numbers)
-unfolding row
-row_next numbers i {end} h e =
-    ap row (drop-cons numbers i 0 h ∙ ap (λ (k : ℕ). get_or numbers i 0 ∷ drop k numbers) (sym (add-one i)))
-    ∙ ap (λ (k : ℕ). decimal (get_or numbers i 0) ++ k ∷ row (drop (i + 1) numbers)) (sym (e ∙ after_is numbers i h))
-    ∙ sym (append_snoc (decimal (get_or numbers i 0)) end (row (drop (i + 1) numbers)))
+pub row_is : (others : List ℕ) (last : ℕ) → row (others ++ last ∷ []) ≡ flat_map spaced others ++ (decimal last ++ newline ∷ [])
+unfolding row after
+row_is [] last = refl
+row_is (n ∷ ns) last =
+    (λ i. decimal n ++ after_more ns last i ∷ row_is ns last i)
+    ∙ sym (append_snoc (decimal n) space (flat_map spaced ns ++ (decimal last ++ newline ∷ [])))
+    ∙ sym (append_assoc (spaced n) (flat_map spaced ns) (decimal last ++ newline ∷ []))
 
--- past the last nothing is left
-pub row_none : (numbers : List ℕ) (i : ℕ) → length numbers ≤ i → row (drop i numbers) ≡ []
-unfolding row
-row_none numbers i h = ap row (drop_of_length-le numbers h)
+-- one number more
+pub spaced_more : (ns : List ℕ) (i : ℕ) → i < length ns → flat_map spaced (take (i + 1) ns) ≡ flat_map spaced (take i ns) ++ spaced (get_or ns i 0)
+spaced_more ns i h = ap (flat_map spaced) (take_more ns i 0 h) ∙ sym (flat_map_more spaced [] (take i ns) (get_or ns i 0))

@@ -1,18 +1,17 @@
 // Numbers as a line of text, in a buffer that has room for it.
-ghost use Rattle.std.specs.Prelude.{◌≡◌, cond, [], ◌∷◌, ◌++◌, ◌+◌, ◌*◌, ◌≤◌, length};
-ghost use Rattle.text.specs.Lines.{newline, space, decimal, row, Put};
+ghost use Rattle.std.specs.Prelude.{[], ◌∷◌, ◌++◌, ◌+◌, ◌*◌, ◌≤◌, length};
+ghost use Rattle.text.specs.Lines.{decimal, row, Put, Laid};
+
+use crate::has_room;
 
 // Bytes, from a place of the buffer on.
 fn copy(out: &mut [u8], at: usize, bytes: &[u8]) -> usize
     requires { at + length bytes.now ≤ length out.old }
     ensures { Put out.old at bytes.now out.new result }
 {
-    let mut i: usize = 0;
-    while i < bytes.len() {
-        out[at + i] = bytes[i];
-        i += 1;
-    }
-    at + i
+    let end = at + bytes.len();
+    out[at..end].copy_from_slice(bytes);
+    end
 }
 
 // A number and the byte after it: at most 20 digits, so 21 bytes.
@@ -27,34 +26,29 @@ fn put_number(out: &mut [u8], at: usize, n: u64, end: u8) -> usize
     to + 1
 }
 
-// What follows a number.
-fn end_of(last: bool) -> u8
-    ensures { result ≡ cond last newline space }
-{
-    if last { b'\n' } else { b' ' }
-}
-
 // Numbers with a space between, and a newline after the last.
-pub fn put_row(out: &mut [u8], at: usize, numbers: &[u64]) -> usize
+fn put_row(out: &mut [u8], at: usize, numbers: &[u64]) -> usize
     requires { at + 21 * length numbers.now ≤ length out.old }
     ensures { Put out.old at (row numbers.now) out.new result }
 {
+    let Some((last, others)) = numbers.split_last() else {
+        return at;
+    };
     let mut to = at;
-    let mut i: usize = 0;
-    while i < numbers.len() {
-        let end = end_of(i + 1 == numbers.len());
-        to = put_number(out, to, numbers[i], end);
-        i += 1;
+    for n in others {
+        to = put_number(out, to, *n, b' ');
     }
-    to
+    put_number(out, to, *last, b'\n')
 }
 
-// The same after a letter and a space.
-pub fn put_marked(out: &mut [u8], at: usize, mark: u8, numbers: &[u64]) -> usize
-    requires { at + 2 + 21 * length numbers.now ≤ length out.old }
-    ensures { Put out.old at (mark ∷ space ∷ row numbers.now) out.new result }
+// The same after a mark, where the buffer has so much room; else nothing, and the place stays.
+pub fn put_line(out: &mut [u8], at: usize, room: usize, mark: &[u8], numbers: &[u64]) -> usize
+    requires { length mark.now + 21 * length numbers.now ≤ room }
+    ensures { Laid room out.old at (mark.now ++ row numbers.now) out.new result }
 {
-    out[at] = mark;
-    out[at + 1] = b' ';
-    put_row(out, at + 2, numbers)
+    if !has_room(out.len(), at, room) {
+        return at;
+    }
+    let to = copy(out, at, mark);
+    put_row(out, to, numbers)
 }

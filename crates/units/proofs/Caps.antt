@@ -1,15 +1,14 @@
 -- What a cap on a sum keeps: a sum that fits, a further sum, and the outcome of a test against anything below the cap.
 -- Each is linear arithmetic on the lesser of two numbers. Assumes nothing.
-use mathlib.Core.Path.{◌≡◌, refl, sym, ap, ◌∙◌}
-use mathlib.Core.Bool.{Bool, true, false}
-use Prim.Native.Nat.{ℕ, suc, ◌+◌, ◌-◌, ◌^◌, ◌≤◌, ◌<◌, min}
+use mathlib.Core.Path.{◌≡◌, ap}
+use Prim.Native.Nat.{ℕ, ◌+◌, ◌-◌, ◌^◌, ◌≤◌, ◌<◌, min}
 use native.Mathlib.Omega.{arith}
 use lib.Dec.{leb, ltb}
 use lib.Pow.{pow_pos}
 use lib.IntN.{ℤ, pos, negsuc}
 use mir.Syntax.{Width}
 use mir.Val.{SFits, hbits}
-use borrow.Author.Tests.{leb-true, leb-false, le-leb, lt-leb}
+use Rattle.std.proofs.lemmas.Bool.Decides.{nat_tests}
 use Rattle.units.specs.Capped.{capped, capped_z, most_thousandths}
 
 -- a sum of quantities that fits is itself
@@ -24,20 +23,12 @@ capped_most n = omega arith
 pub capped_absorbs : (a b : ℕ) → capped (capped a + b) ≡ capped (a + b)
 capped_absorbs a b = omega arith
 
--- two tests that pass together and fail together are one
-same_test : (a b c d : ℕ) → (c ≤ d → a ≤ b) → (d < c → b < a) → leb a b ≡ leb c d
-same_test a b c d pass fail = by (leb c d) refl
-  where
-    by : (t : Bool) → leb c d ≡ t → leb a b ≡ leb c d
-    by true e = le-leb a b (pass (leb-true c d e)) ∙ sym e
-    by false e = lt-leb a b (fail (leb-false c d e)) ∙ sym e
-
 -- a test against a limit below the cap does not see the cap
 pub capped_leb : (n k : ℕ) → k < most_thousandths → leb (capped n) k ≡ leb n k
-capped_leb n k h = same_test (capped n) k n k (λ p. omega arith) (λ p. omega arith)
+capped_leb n k h = grind (arith, nat_tests)
 
 pub capped_ltb : (n k : ℕ) → k < most_thousandths → ltb k (capped n) ≡ ltb k n
-capped_ltb n k h = same_test (suc k) (capped n) (suc k) n (λ p. omega arith) (λ p. omega arith)
+capped_ltb n k h = grind (arith, nat_tests)
 
 -- a sum of amounts or of times that fits is itself
 pub capped_z_fits : (w : Width) (z : ℤ) → SFits w z → capped_z w z ≡ z

@@ -1,4 +1,2 @@
--- The laws of capped sums that upper crates cite, and the laws of signed sums behind them.
-pub mod Order
+-- The laws of capped sums that upper crates cite.
 pub mod Caps
-pub mod Sums

@@ -12,7 +12,8 @@ most_thousandths = 4294967295
 abbrev pub capped : ℕ → ℕ
 capped n = min n most_thousandths
 
--- a sum of amounts (64 bits) or of times (32 bits), as the unit holds it: from -2 ^ (bits - 1) to 2 ^ (bits - 1) - 1
+-- a sum of amounts (64 bits) or of times (32 bits), as the unit holds it: from -2 ^ (bits - 1) to 2 ^ (bits - 1) - 1. std says the same as
+-- `saturate_signed`; it is written out so that the promise is read here.
 abbrev pub capped_z : Width → ℤ → ℤ
 capped_z w (pos n) = pos (min n (2 ^ hbits w - 1))
 capped_z w (negsuc n) = negsuc (min n (2 ^ hbits w - 1))

@@ -1,41 +1,22 @@
-// Money: an add that is capped at both ends, and a compare.
-ghost use Rattle.std.specs.Prelude.{◌≡◌, ◌+ℤ◌};
+// Money: cents, as 64 bits with a sign hold them.
+ghost use Rattle.std.specs.Prelude.{◌≡◌, refl, ◌+ℤ◌};
 ghost use Rattle.std.specs.Int.Signed.{le_z};
 ghost use Rattle.std.specs.Int.{w64};
 ghost use Rattle.units.specs.Capped.{capped_z};
+ghost use Rattle.units.specs.Kept.{integer_laws};
 
-use crate::Cents;
+use crate::{Cents, Unit};
 
-const MOST_CENTS: i64 = 9_223_372_036_854_775_807;
+impl Unit for Cents {
+    ghost sum = { λ a b. record { 0 = capped_z w64 (a.0 +ℤ b.0) } };
 
-const LEAST_CENTS: i64 = -9_223_372_036_854_775_808;
+    ghost is_at_most = { λ a b. le_z a.0 b.0 };
 
-impl Cents {
-    // The two amounts together.
-    pub fn plus(self, other: Cents) -> Cents
+    fn plus(self, other: Cents) -> Cents
         ensures { result.0 ≡ capped_z w64 (self.0 +ℤ other.0) }
     {
-        let a = self.0;
-        let b = other.0;
-        if b < 0 {
-            if a < LEAST_CENTS - b {
-                Cents(LEAST_CENTS)
-            } else {
-                let sum = a + b;
-                Cents(sum)
-            }
-        } else if MOST_CENTS - b < a {
-            Cents(MOST_CENTS)
-        } else {
-            let sum = a + b;
-            Cents(sum)
-        }
+        Cents(self.0.saturating_add(other.0))
     }
 
-    // Whether this amount is no larger than the other.
-    pub fn at_most(self, other: Cents) -> bool
-        ensures { result ≡ le_z self.0 other.0 }
-    {
-        self.0 <= other.0
-    }
+    ghost laws = { integer_laws w64 (λ a. a.0) (λ z. record { 0 = z }) (λ a. refl) };
 }

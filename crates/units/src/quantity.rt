@@ -1,27 +1,29 @@
-// Quantities: an add that is capped at the most a quantity can hold, and a compare.
-ghost use Rattle.std.specs.Prelude.{◌≡◌, ◌+◌, leb};
+// Quantities: thousandths of a MW, from none to the most that 32 bits hold.
+ghost use Rattle.std.specs.Prelude.{◌≡◌, refl, ◌+◌, ◌-◌, leb};
 ghost use Rattle.units.specs.Capped.{capped};
+ghost use Rattle.units.specs.Kept.{natural_laws};
 
-use crate::Thousandths;
+use crate::{Thousandths, Unit};
 
-const MOST_THOUSANDTHS: u32 = 4_294_967_295;
+impl Unit for Thousandths {
+    ghost sum = { λ a b. record { 0 = capped (a.0 + b.0) } };
 
-impl Thousandths {
-    // The two quantities together.
-    pub fn plus(self, other: Thousandths) -> Thousandths
+    ghost is_at_most = { λ a b. leb a.0 b.0 };
+
+    fn plus(self, other: Thousandths) -> Thousandths
         ensures { result.0 ≡ capped (self.0 + other.0) }
     {
-        if MOST_THOUSANDTHS - self.0 < other.0 {
-            Thousandths(MOST_THOUSANDTHS)
-        } else {
-            Thousandths(self.0 + other.0)
-        }
+        Thousandths(self.0.saturating_add(other.0))
     }
 
-    // Whether this quantity is no larger than the other.
-    pub fn at_most(self, other: Thousandths) -> bool
-        ensures { result ≡ leb self.0 other.0 }
+    ghost laws = { natural_laws (λ a. a.0) (λ k. record { 0 = k }) (λ a. refl) };
+}
+
+impl Thousandths {
+    // How far this quantity is above the other, and none where it is not.
+    pub fn above(self, other: Thousandths) -> Thousandths
+        ensures { result.0 ≡ self.0 - other.0 }
     {
-        self.0 <= other.0
+        Thousandths(self.0.saturating_sub(other.0))
     }
 }

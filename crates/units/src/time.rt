@@ -1,41 +1,22 @@
-// Times: an add that is capped at both ends, and a compare.
-ghost use Rattle.std.specs.Prelude.{◌≡◌, ◌+ℤ◌};
+// Times: minutes, as 32 bits with a sign hold them.
+ghost use Rattle.std.specs.Prelude.{◌≡◌, refl, ◌+ℤ◌};
 ghost use Rattle.std.specs.Int.Signed.{le_z};
 ghost use Rattle.std.specs.Int.{w32};
 ghost use Rattle.units.specs.Capped.{capped_z};
+ghost use Rattle.units.specs.Kept.{integer_laws};
 
-use crate::Minutes;
+use crate::{Minutes, Unit};
 
-const MOST_MINUTES: i32 = 2_147_483_647;
+impl Unit for Minutes {
+    ghost sum = { λ a b. record { 0 = capped_z w32 (a.0 +ℤ b.0) } };
 
-const LEAST_MINUTES: i32 = -2_147_483_648;
+    ghost is_at_most = { λ a b. le_z a.0 b.0 };
 
-impl Minutes {
-    // The two times together.
-    pub fn plus(self, other: Minutes) -> Minutes
+    fn plus(self, other: Minutes) -> Minutes
         ensures { result.0 ≡ capped_z w32 (self.0 +ℤ other.0) }
     {
-        let a = self.0;
-        let b = other.0;
-        if b < 0 {
-            if a < LEAST_MINUTES - b {
-                Minutes(LEAST_MINUTES)
-            } else {
-                let sum = a + b;
-                Minutes(sum)
-            }
-        } else if MOST_MINUTES - b < a {
-            Minutes(MOST_MINUTES)
-        } else {
-            let sum = a + b;
-            Minutes(sum)
-        }
+        Minutes(self.0.saturating_add(other.0))
     }
 
-    // Whether this time is no later than the other.
-    pub fn at_most(self, other: Minutes) -> bool
-        ensures { result ≡ le_z self.0 other.0 }
-    {
-        self.0 <= other.0
-    }
+    ghost laws = { integer_laws w32 (λ a. a.0) (λ z. record { 0 = z }) (λ a. refl) };
 }

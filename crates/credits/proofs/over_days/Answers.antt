@@ -1,10 +1,10 @@
--- A run of no days has the sum 0, and one day more adds its level. Assumes nothing.
-use Rattle.std.proofs.Common.{arith}
-use Rattle.credits.proofs.Runs.{run_none, run_more}
+-- Each level is a number of 32 bits. Assumes nothing.
+use Rattle.std.proofs.Common.{◌≡◌, arith, rules}
+use Rattle.std.specs.List.{sum}
+use Rattle.credits.proofs.Runs.{sum_most}
 use Rattle.credits.proofs.over_days.Goals as goal
 
-pub loop-i-init : goal.loop-i-init
-loop-i-init c = omega (arith, run_none c.args.levels.now c.args.from)
-
-pub loop-i-preserved : goal.loop-i-preserved
-loop-i-preserved c = omega (arith, run_more c.args.levels.now c.args.from c.loop-i.i)
+pub returns-clause-most : goal.returns-clause-most
+returns-clause-most c =
+    let total : c.sum.result ≡ sum c.args.levels.now = search rules in
+    omega (arith, sum_most c.args.levels.now c.type_inv.levels)

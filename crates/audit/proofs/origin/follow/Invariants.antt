@@ -1,14 +1,16 @@
--- After i turns i records are followed, and the place is that of the last of them; the measure is what is left of the records. Assumes nothing.
-use Rattle.std.proofs.Common.{◌≡◌, ◌+◌, ◌-◌, ◌^◌, ◌≤◌, min}
+-- The pieces that came are the first records, in their number, and are followed; the place is that of the last of them. Assumes nothing.
+use Rattle.std.proofs.Common.{◌≡◌, ◌+◌, ◌-◌, ◌*◌, ◌^◌, ◌≤◌, min, length, drop}
+use Rattle.std.specs.Slice.Iter.{chunks_rest, chunks_size}
 use Rattle.book.specs.Run.{records_of}
-use Rattle.sound.specs.Check.{book_from}
-use Rattle.audit.specs.Following.{FollowsTo}
+use Rattle.ledger.specs.Running.{records_in}
+use Rattle.audit.specs.Following.{book_held, FollowsTo}
 use Rattle.audit.proofs.origin.follow.Given as goal
 
-abbrev pub invariant-loop-i : goal.invariant-loop-i
-invariant-loop-i l =
-    (l.i ≤ l.records) × (l.place ≡ min (l.done + l.i) (2 ^ 64 - 1))
-    × FollowsTo (book_from l.fn.month l.fn.accounts l.fn.levels l.fn.ledger) (records_of l.history) l.i l.done l.fn.puts l.so_far l.levels
-
-abbrev pub decreases-loop-i : goal.decreases-loop-i
-decreases-loop-i l = l.records - l.i
+abbrev pub invariant-loop-bytes : goal.invariant-loop-bytes
+invariant-loop-bytes l = record {
+  size : chunks_size l.bytes-iterator ≡ 24;
+  left : chunks_rest l.bytes-iterator ≡ drop (length l.yielded * 24) l.history;
+  few : length l.yielded ≤ records_in l.history;
+  place_is : l.place ≡ min (l.done + length l.yielded) (2 ^ 64 - 1);
+  so_far : FollowsTo (book_held l.fn.followed.book l.fn.levels) (records_of l.history) (length l.yielded) l.done l.fn.followed.puts l.followed l.levels;
+}

@@ -1,28 +1,27 @@
 -- `write_book` meets its contract: the three parts are written one after the other, and are the whole list. The lengths are those of the types. Assumes
 -- nothing.
-use Rattle.std.proofs.Common.{◌≡◌, length, ap, ◌∙◌, rules}
+use Rattle.std.proofs.Common.{◌≡◌, length, ap, ◌∙◌, arith, rules, lit<}
 use Rattle.std.proofs.lemmas.List.Edits.{sets}
-use Rattle.boundary.specs.Numbers.{flat, account_numbers, allocation_numbers}
-use Rattle.boundary.proofs.Runs.{table_long}
+use Rattle.std.specs.List.{flat_map}
+use Rattle.book.specs.Book.{no_account, no_allocation}
+use Rattle.boundary.specs.Numbers.{account_numbers, allocation_numbers}
 use Rattle.boundary.proofs.Whole.{written_whole}
 use Rattle.boundary.proofs.writing.write_book.Goals as goal
 
 pub returns : goal.returns
 returns c =
-    let a = c.args in
-    let four : length a.m.windows ≡ 4 = search (rules, table_long) in
-    let few : length a.accounts ≡ 32 = search rules in
-    let many : length a.ledger ≡ 256 = search rules in (
-      c.write_ledger.ensures.0
-          ∙ ap (λ l. sets l 140 (flat allocation_numbers a.ledger)) c.write_accounts.ensures.0
-          ∙ ap (λ l. sets (sets l 12 (flat account_numbers a.accounts)) 140 (flat allocation_numbers a.ledger)) c.write_month.ensures.0
-          ∙ written_whole a.m a.accounts a.ledger few many a.book.now c.requires,
+    let w = c.args.whole.now in
+    let few : length w.accounts ≡ 32 = search rules in
+    let many : length w.ledger ≡ 256 = search rules in (
+      c.write_table-3.ensures.written
+          ∙ ap (λ l. sets l 140 (flat_map allocation_numbers w.ledger)) c.write_table-2.ensures.written
+          ∙ ap (λ l. sets (sets l 12 (flat_map account_numbers w.accounts)) 140 (flat_map allocation_numbers w.ledger)) c.write_table.ensures.written
+          ∙ written_whole w.month w.accounts w.ledger few many c.args.book.now c.requires,
       record {
-        month_fits = c.write_month.ensures.1;
-        windows_long = four;
+        month_fits = c.write_table.ensures.keeps 0 w.month (lit< tt);
         accounts_long = few;
-        accounts_fit = c.write_accounts.ensures.1;
+        accounts_fit = λ p o. c.write_table-2.ensures.keeps p no_account (omega (arith, few));
         ledger_long = many;
-        ledger_fits = c.write_ledger.ensures.1;
+        ledger_fits = λ i o. c.write_table-3.ensures.keeps i no_allocation (omega (arith, many));
       },
     )

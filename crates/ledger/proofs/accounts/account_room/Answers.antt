@@ -1,16 +1,25 @@
 -- A's account is read and judged, and written back as the step leaves it where no reason applies.
-use Rattle.std.proofs.Common.{sym, subst, eq-eqb, ne_eqb, ◌∙◌}
-use Rattle.ledger.specs.Rooms.{AccountRoom}
-use Rattle.ledger.proofs.AccountDone.{refused, altered}
+use Rattle.std.proofs.Common.{refl, ap, ◌∙◌, arith}
+use Rattle.std.proofs.lemmas.Result.{err_from_is_err_and}
+use Rattle.sound.specs.declared.made.Totals.{Totals}
+use Rattle.units.specs.declared.Net.{Net}
+use Rattle.ledger.specs.Judging.{net_of}
+use Rattle.ledger.proofs.AccountDone.{refused, inside, altered}
 use Rattle.ledger.proofs.accounts.account_room.Goals as goal
-use Rattle.ledger.proofs.accounts.account_room.Goals.{then-reason-eq0, else-reason-eq0}
 
-pub returns : goal.returns
-returns c =
+pub returns-in_err-account_reason-clause-does : goal.returns-in_err-account_reason-clause-does
+returns-in_err-account_reason-clause-does c =
     let s = c.args in
-    elim c.if-reason-eq0.branch [
-      | then-reason-eq0 w ↦ altered s.m s.accounts.now s.totals.now s.x c.requires.0 _ c.slot_of-i.ensures.0 _ c.account_at-a.ensures _ c.roles_of.ensures _ c.account_reason-reason.ensures _ c.answered.ensures
-          (eq-eqb _ _ w.if-reason-eq0.true) _ w.present_net.ensures _ w.account_by-b.ensures _ (w.accounts-is ∙ w.put_account.ensures)
-      | else-reason-eq0 w ↦ subst (λ accounts. AccountRoom s.m s.accounts.now s.totals.now s.x c.answered.result accounts) (sym w.accounts-is)
-          (refused s.m s.accounts.now s.totals.now s.x c.requires.0 _ c.slot_of-i.ensures.0 _ c.account_at-a.ensures _ c.roles_of.ensures _ c.account_reason-reason.ensures _ c.answered.ensures (ne_eqb _ _ w.if-reason-eq0.false))
-    ]
+    let p = err_from_is_err_and c.from_residual.result c.from_residual.ensures.1 in
+    rw (p.1, p.2) (refused s.month.now s.accounts.now s.totals.now s.x _ c.get.ensures _ c.in_err-account_reason.ensures _ refl)
+
+pub bounds-accounts-i : goal.bounds-accounts-i
+bounds-accounts-i c =
+    let s = c.args in
+    omega (arith, inside s.month.now s.accounts.now s.totals.now s.x _ c.get.ensures _ c.in_ok-account_reason.ensures c.requires refl)
+
+pub returns-clause-does : goal.returns-clause-does
+returns-clause-does c =
+    let s = c.args in
+    altered s.month.now s.accounts.now s.totals.now s.x _ c.get.ensures _ c.in_ok-account_reason.ensures c.requires refl
+    (c.net_of.ensures ∙ ap (λ (y : Totals). let n : Net = record { 0 = net_of y } in n) c.totals_of.ensures) _ _ c.alter.ensures

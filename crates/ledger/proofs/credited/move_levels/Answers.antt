@@ -1,20 +1,12 @@
--- A run of no levels is as it was; the next level is still as it was, so it is inside its limit; and one level more is moved by the definition.
-use Rattle.std.proofs.Common.{◌+◌, ap, sym, ◌∙◌, set, arith}
+-- One level more is moved in its place.
+use Rattle.std.proofs.Common.{get_or, arith}
+use Rattle.std.proofs.lemmas.List.{get_or_default}
+use Rattle.std.proofs.lemmas.List.Edits.{map_over_more}
+use Rattle.gate.specs.Rooms.{creates}
 use Rattle.ledger.specs.Writing.{moved_by}
-use Rattle.ledger.proofs.LevelRuns.{changed_none, changed_next, changed_more}
 use Rattle.ledger.proofs.credited.move_levels.Goals as goal
 
-pub loop-i-init : goal.loop-i-init
-loop-i-init c = record { within = omega arith; moved = sym (changed_none _ _ _) }
-
-pub moved-requires : goal.moved-requires
-moved-requires c =
-    let a = c.args in
-    let same = changed_next (moved_by a.creates a.q) a.levels.now a.from c.loop-i.levels c.loop-i.i c.loop-i.invariant.moved in
-    (omega arith, omega (arith, same, c.requires.0.low (a.from + c.loop-i.i) (omega arith)))
-
-pub loop-i-preserved : goal.loop-i-preserved
-loop-i-preserved c =
-    let a = c.args in
-    let l = c.loop-i in
-    record { within = omega arith; moved = ap (set l.levels (a.from + l.i)) c.moved.ensures ∙ changed_more (moved_by a.creates a.q) a.levels.now a.from l.levels l.i l.invariant.moved }
+pub loop-level-preserved : goal.loop-level-preserved
+loop-level-preserved c =
+    let l = c.loop-level in
+    rw c.moved.ensures (map_over_more (moved_by (creates c.args.change) c.args.q) c.args.levels.now l.levels l.level-index (get_or l.levels l.level-index 0) (omega arith) l.invariant (get_or_default l.levels l.level-index 0 (get_or l.levels l.level-index 0) (omega arith)))

@@ -1,11 +1,8 @@
--- The levels passed are moved, and the others are as they were. The measure is what is left of the days.
-use Rattle.std.proofs.Common.{◌≡◌, ◌-◌, ◌≤◌}
-use Rattle.book.specs.Steps.{changed}
+-- The levels passed are moved, and the others are as they were.
+use Rattle.std.proofs.Common.{◌≡◌, ◌++◌, map, take, drop}
+use Rattle.gate.specs.Rooms.{creates}
 use Rattle.ledger.specs.Writing.{moved_by}
 use Rattle.ledger.proofs.credited.move_levels.Given as goal
 
-abbrev pub invariant-loop-i : goal.invariant-loop-i
-invariant-loop-i l = record { within : l.i ≤ l.days; moved : l.levels ≡ changed (moved_by l.creates l.q) l.initial.levels l.from l.i }
-
-abbrev pub decreases-loop-i : goal.decreases-loop-i
-decreases-loop-i l = l.days - l.i
+abbrev pub invariant-loop-level : goal.invariant-loop-level
+invariant-loop-level l = l.levels ≡ map (moved_by (creates l.change) l.q) (take l.level-index l.initial.levels) ++ drop l.level-index l.initial.levels

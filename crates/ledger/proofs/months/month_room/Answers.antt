@@ -1,6 +1,7 @@
 -- No reason after the door's applies to OPEN or WINDOW, a window that is let in has its selector and its end inside their ranges, and the month is all
 -- that is written.
-use Rattle.std.proofs.Common.{◌≡◌, ℕ, [], refl, sym, ◌∙◌, eq-eqb, ne_eqb, leb-true}
+use Rattle.std.proofs.Common.{◌≡◌, ℕ, [], None, refl, sym, ◌∙◌, leb-true}
+use Rattle.std.proofs.lemmas.Result.{err_from_is_err_and}
 use Rattle.units.specs.declared.Minutes.{Minutes}
 use Rattle.book.specs.declared.Month.{Month}
 use Rattle.book.specs.Book.{Book}
@@ -40,18 +41,20 @@ unfolding in_range
 inside m t (Open d p) n h z = tt
 inside m t (Window s e) n h z = let ok = (passed (book_from m [] [] []) _ (sym (h _ refl) ∙ z)).no7 in (leb-true 1 s (search parts), leb-true _ _ (search parts))
 
-pub returns-then-reason-ne0 : goal.returns-then-reason-ne0
-returns-then-reason-ne0 c accounts lv ledger ts h =
+pub returns-in_err-month_reason-clause-does : goal.returns-in_err-month_reason-clause-does
+returns-in_err-month_reason-clause-does c =
     let x = c.args.x in
-    let b = book_from c.args.m accounts lv ledger in
-    refuses b (month_step x) _ (no_later b _ _ (c.month_reason-reason.ensures b refl) (none_later b x.at x.change)) (ne_eqb _ _ c.if-reason-ne0.true) ts h _ c.refused.ensures
+    let p = err_from_is_err_and c.from_residual.result c.from_residual.ensures.1 in
+    rw (p.1, p.2) (λ accounts lv ledger ts h.
+    let b = book_from c.args.month.now accounts lv ledger in
+    refuses b (month_step x) _ (no_later b _ _ (c.in_err-month_reason.ensures b refl) (none_later b x.at x.change)) ts h)
 
 pub month_by-requires : goal.month_by-requires
-month_by-requires c = inside c.args.m c.args.x.at c.args.x.change _ c.month_reason-reason.ensures c.if-reason-ne0.false
+month_by-requires c = inside c.args.month.now c.args.x.at c.args.x.change _ c.in_ok-month_reason.ensures refl
 
-pub returns : goal.returns
-returns c accounts lv ledger ts h =
+pub returns-clause-does : goal.returns-clause-does
+returns-clause-does c accounts lv ledger ts h =
     let x = c.args.x in
-    let b = book_from c.args.m accounts lv ledger in
-    does b (month_step x) _ (no_later b _ _ (c.month_reason-reason.ensures b refl) (none_later b x.at x.change)) (eq-eqb _ _ c.if-reason-ne0.false) _
-    (rw (c.done_at.ensures, c.month_by.ensures) (written_is b x.at x.change)) (rw (c.done_at.ensures, no_number b x.at x.change)) h
+    let b = book_from c.args.month.now accounts lv ledger in
+    does b (month_step x) (no_later b _ _ (c.in_ok-month_reason.ensures b refl) (none_later b x.at x.change)) (at_minute x.at c.month_by.result) None
+    (rw c.month_by.ensures (written_is b x.at x.change)) (rw (no_number b x.at x.change)) h

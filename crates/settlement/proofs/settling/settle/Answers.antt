@@ -1,31 +1,19 @@
--- `settle` meets its contract. The settlement is that of the book that was checked, with room for it where the lent room has 32 places; as many of its figures
--- as it lists are written to the room, and the rest is what `Written` says of such a room. Assumes nothing.
-use Rattle.std.proofs.Common.{◌≡◌, Bool, length, eqb, ap, ◌∙◌, arith}
-use Rattle.book.specs.Book.{participants}
-use Rattle.sound.specs.Check.{book_from}
-use Rattle.settlement.specs.Listing.{settlement_from}
-use Rattle.settlement.proofs.Books.{settleable_of}
-use Rattle.settlement.proofs.Written.{there, settles}
+-- `settle` meets its contract: a lent room of 32 places is written as far as the settlement lists figures, and any other is left. Assumes nothing.
+use Rattle.std.proofs.Common.{◌++◌, drop, ap, ◌∙◌}
+use Rattle.std.proofs.lemmas.Result.{err_from_is_err_and}
+use Rattle.settlement.proofs.Written.{wrong_room, refused, given}
 use Rattle.settlement.proofs.settling.settle.Goals as goal
 
-pub settled_on-s-requires : goal.settled_on-s-requires
-settled_on-s-requires c = settleable_of _ c.check-found.result c.check-found.ensures
+pub returns-then-figures-ne-PLACES : goal.returns-then-figures-ne-PLACES
+returns-then-figures-ne-PLACES c = wrong_room _ c.args.figures.now c.if-figures-ne-PLACES.true
 
-pub write-requires : goal.write-requires
-write-requires c =
-    let s = c.args in
-    let b = book_from s.month s.accounts.now s.levels.now s.ledger.now in
-    let found = c.check-found.result in
-    let worked : c.settled_on-s.result ≡ settlement_from (eqb (length s.figures.now) participants) found s.month s.levels.now =
-    c.settled_on-s.ensures ∙ ap (λ (t : Bool). settlement_from t found s.month s.levels.now) c.has_room.ensures in
-    let h = there b found c.check-found.ensures s.figures.now c.settled_on-s.result worked in
-    (omega (arith, h.0, c.count_of.ensures), omega (arith, h.1, c.count_of.ensures))
+pub returns-in_err-list : goal.returns-in_err-list
+returns-in_err-list c =
+    let p = err_from_is_err_and c.from_residual.result c.from_residual.ensures.1 in
+    rw (p.1, p.2) (refused _ c.args.figures.now c.if-figures-ne-PLACES.false c.in_err-list.field-0.0 c.in_err-list.ensures)
 
 pub returns : goal.returns
 returns c =
-    let s = c.args in
-    let b = book_from s.month s.accounts.now s.levels.now s.ledger.now in
-    let found = c.check-found.result in
-    let worked : c.settled_on-s.result ≡ settlement_from (eqb (length s.figures.now) participants) found s.month s.levels.now =
-    c.settled_on-s.ensures ∙ ap (λ (t : Bool). settlement_from t found s.month s.levels.now) c.has_room.ensures in
-    settles b found c.check-found.ensures s.figures.now c.settled_on-s.result worked c.count_of.result c.count_of.ensures c.in_short.result c.in_short.ensures c.write.new.room c.write.ensures
+    let room = c.args.figures.now in
+    given _ room c.if-figures-ne-PLACES.false c.in_ok-list.list c.in_ok-list.ensures
+    (ap (λ written. written ++ drop c.in_ok-list.list.count room) (c.copy_from_slice.ensures.after ∙ c.figures.ensures))

@@ -1,30 +1,44 @@
--- `check` meets its contract. The lengths are looked at first, so that the two tables are loaded whole where they are right and not at all where one is
--- not; what was loaded is then tested by value, and by `Loaded` that is the definition's test of the lent book. Assumes nothing.
-use Rattle.std.proofs.Common.{◌≡◌, Bool, true, cond, ◌++◌, ℕ, ◌-◌, List, length, take, replicate, sym, ap, ◌∙◌}
-use Rattle.book.specs.Book.{no_account, no_allocation}
-use Rattle.book.specs.Sound.{right_lengths}
-use Rattle.sound.specs.Check.{book_from}
-use Rattle.sound.proofs.Loaded.{right_accounts, right_ledger, loaded, checks}
+-- `check` meets its contract. Where the lengths are right the accounts are copied whole, and the tests of what is lent are the definition's (`Fits`); where
+-- they are not, the fresh book's accounts and totals are handed back. Assumes nothing.
+use Rattle.std.proofs.Common.{◌≡◌, refl, sym, ap, ◌∙◌, Bool, true, false, ◌&&◌, cond, length, subst, rules}
+use Rattle.book.specs.Book.{Book, fresh}
+use Rattle.book.specs.Sound.{right_lengths, sound}
+use Rattle.sound.specs.declared.test.Checked.{Checked}
+use Rattle.sound.specs.Check.{book_from, lengths_fit, CappedTotals}
+use Rattle.sound.specs.Checking.{Checks}
+use Rattle.sound.proofs.Fits.{checked}
 use Rattle.sound.proofs.test.check.Goals as goal
+use borrow.Author.Tests.{eq-eqb}
 
--- a table is loaded whole or not at all
-taken : {D : Type 0} (all n : ℕ) (xs t : List D) (d : D) (right : Bool) → n ≡ cond right all 0 → t ≡ take n xs ++ replicate (all - n) d → (right ≡ true → length xs ≡ all) → t ≡ cond right xs (replicate all d)
-taken all n xs t d right e-n e-t long = e-t ∙ ap (λ (k : ℕ). take k xs ++ replicate (all - k) d) e-n ∙ loaded all xs d right long
-
-pub returns : goal.returns
+-- the four windows have their length by their type
+lengths_same : (b : Book) → length b.month.windows ≡ 4 → lengths_fit b ≡ right_lengths b
 unfolding right_lengths
-returns c =
-    let m = c.args.month in
-    let accounts = c.args.accounts.now in
-    let lv = c.args.levels.now in
-    let ledger = c.args.ledger.now in
-    let asked = c.has_right_lengths-right in
-    let right = asked.result in
-    let accounts_long : right ≡ true → length accounts ≡ 32 = λ h. right_accounts (length m.windows) (length accounts) (length lv) (length ledger) (sym asked.ensures ∙ h) in
-    let ledger_long : right ≡ true → length ledger ≡ 256 = λ h. right_ledger (length m.windows) (length accounts) (length lv) (length ledger) (sym asked.ensures ∙ h) in
-    checks (book_from m accounts lv ledger) right c.load_accounts-a.result c.load-t.result c.tested.result asked.ensures
-    (taken 32 c.rows-2.result accounts c.load_accounts-a.result no_account right c.rows-2.ensures c.load_accounts-a.ensures accounts_long)
-    (taken 256 c.rows.result ledger c.load-t.result no_allocation right c.rows.ensures c.load-t.ensures ledger_long)
-    c.tested.ensures.0
-    c.tested.ensures.1.0
-    c.tested.ensures.1.1
+lengths_same b e = rw (eq-eqb (length b.month.windows) 4 e)
+
+-- what is handed back, where the lengths are right and where they are not
+checks : (b : Book) (r : Checked) (t : Bool) → right_lengths b ≡ t → r.usable ≡ (t && sound b) → r.accounts ≡ cond t b.accounts fresh.accounts
+    → CappedTotals r.totals (cond t b.ledger fresh.ledger) → Checks b r
+checks b r t h u a c = record {
+  usable_is = u ∙ sym (ap (λ t. t && sound b) h);
+  accounts_are = a ∙ sym (ap (λ t. cond t b.accounts fresh.accounts) h);
+  totals_are = subst (CappedTotals r.totals) (sym (ap (λ t. cond t b.ledger fresh.ledger) h)) c;
+}
+
+pub returns-then-has_right_lengths : goal.returns-then-has_right_lengths
+returns-then-has_right_lengths c =
+    let b = book_from c.args.month c.args.accounts.now c.args.levels.now c.args.ledger.now in
+    let asked = sym c.has_right_lengths.ensures ∙ c.if-has_right_lengths.true in
+    checks b _ true
+    (sym (lengths_same b (search rules)) ∙ asked)
+    (c.is_sound.ensures ∙ checked b asked c.totals-sums.result c.totals-sums.ensures)
+    c.copy_from_slice.ensures.after
+    c.totals-sums.ensures
+
+pub returns-else-has_right_lengths : goal.returns-else-has_right_lengths
+returns-else-has_right_lengths c =
+    let b = book_from c.args.month c.args.accounts.now c.args.levels.now c.args.ledger.now in
+    checks b _ false
+    (sym (lengths_same b (search rules)) ∙ sym c.has_right_lengths.ensures ∙ c.if-has_right_lengths.false)
+    refl
+    c.fresh_accounts-own.ensures
+    (subst (CappedTotals c.totals.result) c.fresh_ledger.ensures c.totals.ensures)
