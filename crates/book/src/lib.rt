@@ -14,8 +14,8 @@ pub struct Window {
     pub closing: Minutes,
 }
 
-// The month; days is 0 while none is open. The widest field comes first, so that a copy has no
-// gaps.
+// The month; days is 0 while none is open, a number, since a lent month may hold any. The widest
+// field comes first, so that a copy has no gaps.
 #[derive(Clone, Copy, PartialEq, Eq)]
 pub struct Month {
     pub price: Cents,
@@ -32,7 +32,8 @@ pub struct Margin {
     pub net: Net,
 }
 
-// A participant's account; roles is 0 while it is not registered, 1 generator, 2 customer, 3 both.
+// A participant's account; roles is 0 while it is not registered, 1 generator, 2 customer, 3 both: a
+// number, since a lent account may hold any.
 #[derive(Clone, Copy, PartialEq, Eq)]
 pub struct Account {
     pub roles: u8,
@@ -86,7 +87,7 @@ pub struct Whole {
 }
 
 // The answer to a record: the reason, or 0 where it is done, and the number given, 0 but for a done
-// SUBMIT.
+// SUBMIT. Two numbers: the rules, `demand_1` and the word of an answer speak of these.
 #[derive(Clone, Copy, PartialEq, Eq)]
 pub struct Answer {
     pub reason: u8,

@@ -20,6 +20,7 @@ fn case(letter: &[u8], old: &[u64], credits: u64, new: &mut [u64]) {
     io::write_all(STDOUT_FILENO, b" to ");
     io::print_decimal(STDOUT_FILENO, credits);
     io::write_all(STDOUT_FILENO, b":");
+    // Each of the three is shared.
     let _ = share::share(old, credits, new);
     show(new);
     io::write_all(STDOUT_FILENO, b"\n");

@@ -128,7 +128,7 @@ fn allocation(party: u8, trade: Trade, at: Minutes) -> Room
     Room::Allocation(AllocationStep { party, trade, at })
 }
 
-// The room of a step.
+// The room of a step: one exhaustive match, an arm for each kind.
 impl From<Step> for Room {
     ghost from_gives = { λ step room. said_by room ≡ Some step };
 

@@ -19,7 +19,7 @@ use reasons::{
 };
 use units::{Minutes, Thousandths};
 
-// The places of the windows.
+// The places of the windows, a list in the rules too.
 const SUBMITTING: usize = 0;
 
 const ACCEPTING: usize = 1;

@@ -15,7 +15,7 @@ use Rattle.book.specs.Reasons.{not_registered, not_given, early, lowest, reason5
 use Rattle.book.specs.Run.{usable}
 use Rattle.book.proofs.Tests.{neither, parts}
 use Rattle.gate.specs.declared.Trade.{Trade}
-use Rattle.gate.specs.declared.Trade.TheVariants.{Submit, Withdraw, Accept, AskReversal, AgreeReversal, Amend}
+use Rattle.gate.specs.declared.Trade.TheVariants.{Submit, Accept, AgreeReversal}
 use Rattle.gate.specs.declared.AllocationStep.{AllocationStep}
 use Rattle.gate.specs.Rooms.{trades, allocation_step}
 use Rattle.gate.specs.Doors.{customer_in, number_in, ByTrade}
@@ -38,11 +38,7 @@ module _ (b : Book) (u : usable b ≡ true) (p : ℕ) (t : Minutes) where
   known : (y : Trade) → Passed b (trades p y t) → (not_registered b p ≡ false) × (named y ≡ true → not_given b (number_in y) ≡ false)
   unfolding reason5
   known (Submit c q) h = ((neither (not_registered b p) _ h.no5).0, λ z. absurd (true≢false (sym z)))
-  known (Withdraw n) h = let k = neither (not_registered b p) _ h.no5 in (k.0, λ _. k.1)
-  known (Accept n) h = let k = neither (not_registered b p) _ h.no5 in (k.0, λ _. k.1)
-  known (AskReversal n) h = let k = neither (not_registered b p) _ h.no5 in (k.0, λ _. k.1)
-  known (AgreeReversal n) h = let k = neither (not_registered b p) _ h.no5 in (k.0, λ _. k.1)
-  known (Amend n q) h = let k = neither (not_registered b p) _ h.no5 in (k.0, λ _. k.1)
+  known _ h = let k = neither (not_registered b p) _ h.no5 in (k.0, λ _. k.1)
 
   -- whoever it may be judged by has an account
   judged_below : (y : Trade) (l : Allocation) → Parties l → p < participants → judged_by p y l < participants

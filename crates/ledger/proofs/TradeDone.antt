@@ -19,7 +19,7 @@ use Rattle.book.proofs.Tests.{parts, neither}
 use Rattle.book.proofs.NoReason.{NoReason, no_reason}
 use Rattle.sound.specs.Check.{book_from}
 use Rattle.gate.specs.declared.Trade.{Trade}
-use Rattle.gate.specs.declared.Trade.TheVariants.{Submit, Withdraw, Accept, AskReversal, AgreeReversal, Amend}
+use Rattle.gate.specs.declared.Trade.TheVariants.{Submit, Amend}
 use Rattle.gate.specs.declared.AllocationStep.{AllocationStep}
 use Rattle.gate.specs.Rooms.{trades, allocation_step}
 use Rattle.sound.specs.declared.made.Totals.{Totals}
@@ -68,16 +68,10 @@ module _ (b : Book) (u : usable b ≡ true) (p : ℕ) (t : Minutes) where
         book = rw one;
         number = refl;
       }
-  writes (Withdraw n) r =
-      record { inside = given_inside n r.no5; replaces = rewritten refl refl; of = parties b u _; low = quantity_low b u _; left = tt; book = refl; number = refl }
-  writes (Accept n) r =
-      record { inside = given_inside n r.no5; replaces = rewritten refl refl; of = parties b u _; low = quantity_low b u _; left = tt; book = refl; number = refl }
-  writes (AskReversal n) r =
-      record { inside = given_inside n r.no5; replaces = rewritten refl refl; of = parties b u _; low = quantity_low b u _; left = tt; book = refl; number = refl }
-  writes (AgreeReversal n) r =
-      record { inside = given_inside n r.no5; replaces = rewritten refl refl; of = parties b u _; low = quantity_low b u _; left = tt; book = refl; number = refl }
   writes (Amend n q) r =
       record { inside = given_inside n r.no5; replaces = rewritten refl refl; of = parties b u _; low = leb-true q.0 most_quantity r.no7; left = tt; book = refl; number = refl }
+  writes _ r =
+      record { inside = given_inside _ r.no5; replaces = rewritten refl refl; of = parties b u _; low = quantity_low b u _; left = tt; book = refl; number = refl }
 
 -- ---- in the room, where no reason applies
 module _ (b : Book) (ts : List Totals) (ready : Ready b ts) (x : AllocationStep) (is : 0 ≡ reason_of b (allocation_step x)) where

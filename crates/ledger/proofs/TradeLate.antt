@@ -10,7 +10,7 @@ use Rattle.book.specs.Words.{pending, accepted, received}
 use Rattle.book.specs.Reasons.{late, lowest, reason12, reason13, reason14, reason15}
 use Rattle.reasons.proofs.Chain.{lines}
 use Rattle.gate.specs.declared.Trade.{Trade}
-use Rattle.gate.specs.declared.Trade.TheVariants.{Submit, Withdraw, Accept, AskReversal, AgreeReversal, Amend}
+use Rattle.gate.specs.declared.Trade.TheVariants.{Submit, Accept, AgreeReversal, Amend}
 use Rattle.gate.specs.Doors.{number_in}
 use Rattle.gate.specs.Rooms.{trades}
 use Rattle.ledger.specs.declared.standing.Standing.{Standing}
@@ -30,8 +30,7 @@ module _ (b : Book) (s : Standing) (here : Allocation) (p : ℕ) (t : Minutes) w
   pub late_is : (y : Trade) → StandsIn b s here p y → late_by s here p t y ≡ lowest late b (trades p y t)
   unfolding late_by reason12 reason13 reason14 reason15
   late_is (Submit c q) j = rw (← j.month, ← j.levels_are, ← j.judged, ← j.pending_is, ← j.made, ← j.received_is) (simp lines)
-  late_is (Withdraw n) j = refl
   late_is (Accept n) j = rw (← j.month, ← j.levels_are, ← j.judged, ← j.pending_is, ← j.made, ← j.received_is, ← j.here_is refl) (simp lines)
-  late_is (AskReversal n) j = refl
   late_is (AgreeReversal n) j = rw (← j.month, ← j.judged, ← j.made, ← j.received_is, ← j.here_is refl) (simp lines)
   late_is (Amend n q) j = rw (← j.month, ← j.levels_are, ← j.made, ← j.here_is refl) (simp lines)
+  late_is _ j = refl

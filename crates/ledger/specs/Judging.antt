@@ -1,5 +1,5 @@
--- What the rooms read of a book to judge a step: the totals of a participant, the accounts of the parties, and the record of the allocation. Assumes
--- nothing.
+-- What the rooms read of a book to judge a step: the levels and the totals, the place of the allocation, and how the participant that the step is judged by
+-- stands, with the reasons that go by it. Assumes nothing.
 use Rattle.std.specs.Prelude.{◌≡◌, Bool, true, false, cond, ◌||◌, List, ℕ, ◌+◌, ◌-◌, ◌≤◌, ◌<◌, eqb, leb, ltb, ℤ, pos, ◌-ℤ◌, get_or}
 use Rattle.std.specs.Int.Signed.{lt_z}
 use Rattle.units.specs.declared.Minutes.{Minutes}
@@ -11,7 +11,7 @@ use Rattle.book.specs.Words.{tradeable_in, margin_of}
 use Rattle.book.specs.Reasons.{some, change, early, lowest}
 use Rattle.reasons.specs.Chain.{when, first}
 use Rattle.gate.specs.declared.Trade.{Trade}
-use Rattle.gate.specs.declared.Trade.TheVariants.{Submit, Withdraw, Accept, AskReversal, AgreeReversal, Amend}
+use Rattle.gate.specs.declared.Trade.TheVariants.{Submit, Accept, AgreeReversal, Amend}
 use Rattle.gate.specs.declared.CutStep.{CutStep}
 use Rattle.gate.specs.Rooms.{cut_step}
 use Rattle.gate.specs.Doors.{number_in}
@@ -93,11 +93,10 @@ amend_late s p old new = when (leb old new || ltb (s.totals.made.0 - tradeable_i
 -- by kind, with the record at hand
 unfoldable pub late_by : Standing → Allocation → ℕ → Minutes → Trade → ℕ
 late_by s l p t (Submit c q) = first (credits_late s p (q.0 + s.totals.pending.0 + s.totals.made.0)) (margin_late s (allocation_by p t (Submit c q) l) t)
-late_by s l p t (Withdraw n) = 0
 late_by s l p t (Accept n) = first (credits_late s l.generator (s.totals.pending.0 + s.totals.made.0)) (margin_late s l t)
-late_by s l p t (AskReversal n) = 0
 late_by s l p t (AgreeReversal n) = margin_late s l t
 late_by s l p t (Amend n q) = amend_late s p l.quantity.0 q.0
+late_by s l p t _ = 0
 
 -- what they rest on beside
 pub record LateFits (here : Allocation) (y : Trade) : Type 0 where

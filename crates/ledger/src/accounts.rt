@@ -29,7 +29,8 @@ fn with_margin(a: Account, margin: Margin) -> Account
     Account { margin, ..a }
 }
 
-// REQUIREMENT writes that single account.
+// REQUIREMENT writes that single account. This and the next are setters over functions by value, the
+// form that document 01 names.
 fn set_requirement(a: &mut Account, requirement: Thousandths)
     ensures { a.new ≡ with_requirement requirement a.old }
 {

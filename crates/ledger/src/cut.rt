@@ -35,7 +35,8 @@ pub fn weight(generator: u8, l: Allocation) -> u64
     }
 }
 
-// What each record weighs.
+// What each record weighs. By place, as in `recut_by`: of a zip that writes, a proof knows nothing
+// that was written.
 fn weigh(generator: u8, ledger: &[Allocation], weights: &mut [u64])
     requires { length weights.old ≡ length ledger.now }
     ensures { weights.new ≡ map (accepted_in generator) ledger.now }
@@ -76,6 +77,7 @@ pub fn cut_to(generator: u8, credits: Thousandths, ledger: &mut [Allocation])
     let mut weights = [0u64; 256];
     let mut shares = [0u64; 256];
     weigh(generator, ledger, &mut weights);
+    // Never refused: `CutFits` has a weight to share by, and no request too large.
     let _ = share(&weights, credits.0 as u64, &mut shares);
     recut_by(generator, ledger, &shares);
 }

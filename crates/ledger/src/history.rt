@@ -31,7 +31,7 @@ fn word_of(reason: u8, number: u16) -> u64
     reason as u64 + 32 * number as u64
 }
 
-// The answer in a word.
+// The answer in a word: one for each record, as `Runs` and C have it.
 pub fn answer_in(word: u64) -> Answer
     ensures { (result.reason ≡ reason_in word) × (result.number ≡ number_in word) }
 {

@@ -1,6 +1,8 @@
 // Steps on a lent book: `step` does or refuses any record on any book, and `run` a whole history.
 // A record goes through the gate into one of five rooms, by the part of the book that it alters.
-// A room is given what its kinds read and lent what they may alter, and nothing else.
+// A room is given what its kinds read and lent what they may alter, and nothing else. The parts of a
+// lent book go one by one: a struct of `&mut` slices could be pointed elsewhere by its borrower, so no
+// proof shows that its owner's tables come back.
 #![tactic(auto)]
 
 mod accounts; // accounts.rt: the account room: REGISTER, REQUIREMENT, MARGIN

@@ -17,7 +17,7 @@ use record::Step;
 use sound::Totals;
 
 // What a record asks, on a book that may be used, beside the totals of its ledger; the number that
-// it gives.
+// it gives. A match: each room is lent other parts, and none can be left out.
 pub fn do_step(
     month: &mut Month,
     accounts: &mut [Account],

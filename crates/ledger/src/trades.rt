@@ -22,7 +22,8 @@ pub fn place(m: Month, x: AllocationStep) -> usize
     }
 }
 
-// Participant B: the customer of a SUBMIT.
+// Participant B: the customer of a SUBMIT. 0 and no Option where there is none, as `customer_in` of
+// the gate's clauses has it.
 pub fn customer_in(x: AllocationStep) -> u8
     ensures { result ≡ customer_in x.trade }
 {

@@ -27,7 +27,7 @@ fn show_minute(m: Minutes) {
     io::print_decimal(STDOUT_FILENO, audit::minutes_away(m));
 }
 
-// The name of a kind of step that puts a quantity.
+// The name of a kind of step that puts a quantity, by its number, as `Put` has it.
 fn name_of(kind: u8) -> &'static [u8] {
     match kind {
         audit::SUBMIT => b"SUBMIT",

@@ -19,7 +19,7 @@ const PIECE: usize = 65_520;
 // The records of a piece.
 const RECORDS: usize = 2_730;
 
-// No month has so many pieces: their bytes are past 2^64. A proved loop has to end, and nothing
+// No month has so many pieces: their bytes are close to 2^64. A proved loop has to end, and nothing
 // says that a month does.
 const MOST_PIECES: u64 = 281_474_976_710_656;
 

@@ -68,7 +68,8 @@ pub const LEAST_FIGURE: i64 = -100_000_000_000;
 
 pub const MOST_FIGURE: i64 = 100_000_000_000;
 
-// Refused for the reason, if the test holds.
+// Refused for the reason, if the test holds. Two functions, this and the next: a `!` at each call says
+// less than the name.
 pub fn refused_if<R: Drop>(test: bool, reason: R) -> Result<(), R>
     ensures { result ≡ cond test (Err reason) (Ok tt) }
 {
@@ -82,6 +83,7 @@ pub fn refused_unless<R: Drop>(test: bool, reason: R) -> Result<(), R>
     if test { Ok(()) } else { Err(reason) }
 }
 
+// This and the next: each is a word of document 01.
 pub fn is_generator(roles: u8) -> bool
     ensures { result ≡ generates roles }
 {

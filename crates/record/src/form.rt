@@ -40,7 +40,8 @@ impl From<Amount> for LongMinutes {
     }
 }
 
-// The fields of a record, in the order of its bytes.
+// The fields of a record, in the order of its bytes. The kind is a number: byte 0 may hold one that no
+// kind has.
 #[derive(Clone, Copy, PartialEq, Eq)]
 pub struct Fields {
     pub kind: u8,

@@ -13,7 +13,8 @@ mod kind; // kind.rt: the kinds of step
 mod reading; // reading.rt: the step that fields say
 mod writing; // writing.rt: the fields of a step
 
-// A step of the market's history: one of fourteen kinds, each with its own data.
+// A step of the market's history: one of fourteen kinds, each with its own data. Days, selector, roles
+// and kind of a credit are numbers: a record may say any.
 #[derive(Clone, Copy)]
 pub enum Step {
     Open {

@@ -10,7 +10,7 @@ use reasons::PARTICIPANTS;
 use sound::Totals;
 
 // The figures of each registered participant, so many of them, in a table with a place for each
-// participant: memory is fixed. The later places are not used.
+// participant. The later places are not used, and zero: `settle_whole` promises that (`filled`).
 #[derive(Clone, Copy)]
 pub struct Listing {
     pub count: u8,

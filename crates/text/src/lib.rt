@@ -1,6 +1,7 @@
 // The lines that the ledger program prints, put into a buffer of the caller's. Where the buffer has
 // too little room from the place given, nothing is written and the place is answered as it was.
-// Buffer and place stay two parameters: `Laid`, the clause of all three lines, speaks of both.
+// Buffer and place stay two parameters: `Laid`, the clause of all three lines, speaks of both. A reason
+// is a number here: the lines take any.
 #![tactic(auto)]
 
 mod row; // row.rt: numbers as a line

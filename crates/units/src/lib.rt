@@ -1,5 +1,5 @@
 // The units of the market. Quantity, money and time are types of their own, so that none can be added to another.
-// What they share is the trait `Unit`: an add that answers every pair, and an order.
+// What those three share is the trait `Unit`: an add that answers every pair, and an order.
 #![tactic(auto)]
 
 mod unit; // unit.rt: what holds of every unit
