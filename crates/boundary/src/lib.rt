@@ -69,12 +69,12 @@ pub fn rionvakhe_run(
 pub fn rionvakhe_settle(book: &[i64], levels: &[u32], figures: &mut [u64]) -> u64
     ensures { Settles book.now levels.now figures.old result figures.new }
 {
-    let Some(whole) = whole_in(book) else {
-        return 1;
-    };
     if figures.len() != FIGURE_PLACES {
         return 1;
     }
+    let Some(whole) = whole_in(book) else {
+        return 1;
+    };
     match settle_whole(&whole, levels) {
         Ok(list) => {
             write_table(figures, 0, list.figures());

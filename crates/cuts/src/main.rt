@@ -5,6 +5,7 @@
 // Lines are written by the crate io: println! would make the program rest on os::c::rattle_errno too.
 #![tactic(auto)]
 
+use audit::Measured;
 use book::{Allocation, Whole};
 use ledger::{answer_in, is_cut};
 use record::Step;
@@ -84,7 +85,30 @@ fn show_share(
     end_line()
 }
 
-// All lines of one cut.
+// The lines of the allocations that were cut, up to one that cannot be written.
+fn show_shares(
+    cut: Cut,
+    measured: &Measured,
+    before: &[Allocation; 256],
+    after: &[Allocation; 256],
+) -> Result<(), Unwritten> {
+    for (i, (was, is)) in before.iter().zip(after).enumerate() {
+        if is_cut(cut.generator, *was) {
+            show_share(
+                i as u64 + 1,
+                was.quantity.0,
+                is.quantity.0,
+                cut.credits,
+                measured.accepted,
+                measured.each[i],
+            )?;
+        }
+    }
+    Ok(())
+}
+
+// All lines of one cut. The sum's line is tried whatever became of those before it, and its end says
+// whether more can be written.
 fn show_cut(
     cut: Cut,
     before: &[Allocation; 256],
@@ -99,21 +123,8 @@ fn show_cut(
     show(b": generator ", u64::from(cut.generator));
     show(b", accepted ", measured.accepted);
     show(b", tradeable ", cut.credits);
-    end_line()?;
-    for (i, (was, is)) in before.iter().zip(after).enumerate() {
-        if is_cut(cut.generator, *was) {
-            let had = was.quantity.0;
-            let has = is.quantity.0;
-            show_share(
-                i as u64 + 1,
-                had,
-                has,
-                cut.credits,
-                measured.accepted,
-                measured.each[i],
-            )?;
-        }
-    }
+    let _ = end_line();
+    let _ = show_shares(cut, &measured, before, after);
     show(b"sum of distances ", measured.sum);
     show(b", each times ", measured.accepted);
     end_line()

@@ -5,12 +5,13 @@ use mathlib.Core.Path.{◌≡◌, refl, sym, ap, ◌∙◌}
 use mathlib.Core.List.{List}
 use Prim.Native.Nat.{ℕ, ◌-◌}
 use native.Mathlib.Omega.{arith}
+use lib.ListN.{length}
 use lib.Dec.{eqb}
 use borrow.Author.Tests.{eqb-true, eqb-false}
 use Rattle.std.specs.Prelude.{Some, None, Ok}
 use Rattle.book.specs.declared.Account.{Account}
 use Rattle.book.specs.declared.Allocation.{Allocation}
-use Rattle.book.specs.Book.{Book}
+use Rattle.book.specs.Book.{Book, most_given}
 use Rattle.book.specs.Words.{tradeable_in, tradeable, excess}
 use Rattle.book.specs.Reasons.{early, late, lowest, reason_of, reason5, reason12, reason13, reason14, reason15}
 use Rattle.book.specs.Cut.{cut}
@@ -61,13 +62,15 @@ module _ (b : Book) (ts : List Totals) (ready : Ready b ts) (x : CutStep) where
 
   -- ---- what it leaves, where no reason applies
   module _ (is : 0 ≡ reason_of b (cut_step x)) {credits : ℕ} (e-credits : credits ≡ tradeable b x.generator) where
-    pub cut_fits : CutFits x.generator credits b.ledger
+    pub cut_fits : (length b.ledger ≡ most_given) × CutFits x.generator credits b.ledger
     unfolding reason15
-    cut_fits = rw e-credits (record {
-      long = ledger_long b ready.0;
-      quantities = quantity_low b ready.0;
-      fewer = omega (arith, eqb-false (excess b x.generator) 0 (no_reason b (cut_step x) (sym is)).no15);
-    })
+    cut_fits = (
+      ledger_long b ready.0,
+      rw e-credits (record {
+        quantities = quantity_low b ready.0;
+        fewer = omega (arith, eqb-false (excess b x.generator) 0 (no_reason b (cut_step x) (sym is)).no15);
+      }),
+    )
 
     -- the ledger is cut, and the totals are worked out anew
     pub cut_done : {ledger : List Allocation} {sums ts' : List Totals} → ledger ≡ cut x.generator credits b.ledger → CappedTotals sums ledger → ts' ≡ sums

@@ -1,6 +1,6 @@
 -- A cut that its ledger allows is shared: quantities are inside their limit, so that the request is not too large, and the accepted total is above the
 -- credits, so that there is a weight to share by and no share is above its weight. Assumes nothing.
-use mathlib.Core.Path.{◌≡◌, sym, ap, ◌∙◌}
+use mathlib.Core.Path.{◌≡◌, refl, sym, ap, ◌∙◌}
 use mathlib.Core.Bool.{Bool, true, false, cond}
 use mathlib.Core.List.{List, map}
 use Prim.Native.Nat.{ℕ, ◌≤◌, ◌<◌}
@@ -40,13 +40,16 @@ module _ {g credits : ℕ} {t : List Allocation} (f : CutFits g credits t) where
   less : credits < T.total weights
   less = omega (arith, total-map (accepted_in g) t, f.fewer)
 
-  -- for as many shares as there are records, there is a share for each
-  pub cut_shared : credits ≤ 100_000_000_000 → (ws shares : List ℕ) → ws ≡ weights → shares ≡ shares_after ws credits (replicate 256 0) → shares ≡ share_of weights credits
-  cut_shared few ws shares e h =
-      h ∙ ap (λ w. shares_after w credits (replicate 256 0)) e
-      ∙ (shared_when weights credits (replicate 256 0) (sym (length-map t (accepted_in g) ∙ f.long))
-      (never_too_large weights credits (omega (arith, length-map t (accepted_in g), f.long)) (λ i _. weight_low i) few)
+  -- for as many shares as there are records
+  pub cut_shared : length t ≡ 256 → credits ≤ 100_000_000_000 → (x : List ℕ) → length x ≡ 256 → shares_after weights credits x ≡ share_of weights credits
+  cut_shared long few x e =
+      (shared_when weights credits x (e ∙ sym (length-map t (accepted_in g) ∙ long))
+      (never_too_large weights credits (omega (arith, length-map t (accepted_in g), long)) (λ i _. weight_low i) few)
       (λ _. omega (arith, less))).1
+
+  -- so into a room of zeros, of weights that are said to be these
+  pub shared_in : length t ≡ 256 → credits ≤ 100_000_000_000 → (ws shares : List ℕ) → ws ≡ weights → shares ≡ shares_after ws credits (replicate 256 0) → shares ≡ share_of weights credits
+  shared_in long few ws shares e h = h ∙ ap (λ w. shares_after w credits (replicate 256 0)) e ∙ cut_shared long few (replicate 256 0) refl
 
   pub shares_long : length (share_of weights credits) ≡ length t
   shares_long = share_long weights credits ∙ length-map t (accepted_in g)

@@ -59,8 +59,7 @@ pub record TotalsMove (ts : List Totals) (old new : Allocation) : Type 0 where
   pub made : Moves (counts old) (counts new) (get_or ts new.generator no_totals).made.0
   pub received : Moves (counts old) (counts new) (get_or ts new.customer no_totals).received.0
 
--- what a cut rests on: a whole ledger, quantities inside their limit, and fewer credits than the generator's accepted total
+-- what a cut rests on: quantities inside their limit, and fewer credits than the generator's accepted total
 pub record CutFits (generator credits : ℕ) (ledger : List Allocation) : Type 0 where
-  pub long : length ledger ≡ most_given
   pub quantities : (i : ℕ) → (get_or ledger i no_allocation).quantity.0 ≤ most_quantity
   pub fewer : credits < total (accepted_in generator) ledger

@@ -71,7 +71,7 @@ fn recut_by(generator: u8, ledger: &mut [Allocation], shares: &[u64])
 
 // The ledger after the cut of a generator to its tradeable credits.
 pub fn cut_to(generator: u8, credits: Thousandths, ledger: &mut [Allocation])
-    requires { CutFits generator credits.0 ledger.old }
+    requires { (length ledger.old ≡ most_given) × CutFits generator credits.0 ledger.old }
     ensures { ledger.new ≡ cut generator credits.0 ledger.old }
 {
     let mut weights = [0u64; 256];

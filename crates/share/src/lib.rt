@@ -55,10 +55,15 @@ pub fn share(weights: &[u64], amount: u64, shares: &mut [u64]) -> Result<(), Uns
 fn too_large(weights: &[u64], amount: u64) -> bool
     ensures { result ≡ too_large weights.now amount }
 {
+    // Left where the weights alone reach the limit, before the largest is looked for.
+    let Some(sum) = weights.iter().try_fold(0u64, |sum, weight| {
+        let sum = sum.saturating_add(*weight);
+        (sum < LIMIT).then_some(sum)
+    })
+    else {
+        return true;
+    };
     let most = weights.iter().copied().max().unwrap_or(0);
-    let sum = weights
-        .iter()
-        .fold(0u64, |sum, weight| sum.saturating_add(*weight));
     most.saturating_mul(amount).saturating_add(sum) >= LIMIT
 }
 
