@@ -3,7 +3,7 @@ use Rattle.std.specs.Prelude.{◌≡◌, true, List, ℕ, ◌+◌, ◌^◌, ◌�
 use Rattle.book.specs.declared.Month.{Month}
 use Rattle.book.specs.declared.Account.{Account}
 use Rattle.book.specs.declared.Allocation.{Allocation}
-use Rattle.book.specs.Book.{Book, no_allocation, most_given, most_days, most_level, most_quantity, most_net, most_figure, most_price, participants, level_places}
+use Rattle.book.specs.Book.{Book, no_allocation, most_days, most_level, most_quantity, most_net, most_figure, most_price, participants, level_places}
 use Rattle.book.specs.Words.{total, pending_in, accepted_in, received_in}
 use Rattle.book.specs.Run.{usable}
 use Rattle.reasons.specs.Parts.{pends, counts}
